@@ -90,6 +90,7 @@ class Folder:
         self.known = {}  # by name: the digest of the records that are on the disk, and the state of the file that has them
         self.left = {}  # by name: the state of a file that isn't served as it is now, which was told
         self.made = set()  # names of files that weren't here before a link made them
+        self.served = set()  # names of files that a live end was given at first, or had when it listed them last
         self.alike = set()  # of these the ones that a live end refused: another file has the name
         self.kept = {}  # by the name of a file in OTHERS: the state of the file of this host that it stands in for, or None
         self.others, self.is_due = [], False  # the lines that are in OTHERS; whether it is still to be written
@@ -118,6 +119,7 @@ class Folder:
             if is_host_name(name) and not self.directory.kind_of(name):
                 yield from self.changes_of(name)
         self.tell_count()
+        self.served = set(self.known)
         self.kept = dict.fromkeys(name for name, _ in files_in(others))
         for name in sorted(self.kept.keys() & self.known.keys()):
             _, others = self.stand_beside(others, name)
@@ -346,13 +348,21 @@ class Folder:
         self.told.append(f"{self.path_to(name)}: {why}: {stays}")
 
     def take_back(self, names):
-        """Forgets the files that a link made and has purged, and removes those of them that nobody has edited."""
+        """Forgets the files that links have purged or erased, and removes those of them that nobody has edited."""
         self.kept = {name: state for name, state in self.kept.items() if name in names or name in self.unserved}
-        for name in self.made - names:
-            if name in self.known and not self.is_edited(name) and self.directory.find(name):
-                self.directory.remove(name)
+        for name in sorted((self.made | self.served) - names):
+            if name in self.known and self.directory.find(name):
+                self.remove(name)
             self.known.pop(name, None)
         self.made &= names
+        self.served = names & self.known.keys()
+
+    def remove(self, name):
+        """Removes a file that links have no more. One that somebody has edited stays, and is given to the live end again."""
+        if not self.is_edited(name):
+            self.directory.remove(name)
+        elif name not in self.made:
+            self.told.append(f"{self.path_to(name)}: a link has erased it, and somebody has edited it meanwhile: it is served as it is here")
 
     def listing(self, then):
         """What takes the answer to `files`, and writes it back."""

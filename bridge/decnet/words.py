@@ -36,7 +36,7 @@ CHANGELOG = pathlib.Path(__file__).resolve().parent.parent.parent / "CHANGELOG.m
 VERSION = re.compile(r"^## ([0-9.]+)", re.MULTILINE)
 # commands that people look for, and why there are none
 NO_COMMANDS = {**dict.fromkeys(("dir", "directory", "list", "ls"), "a live end has no directories"),
-               **dict.fromkeys(("delete", "del", "rm", "erase"), "a live end deletes no file that it didn't make"),
+               **dict.fromkeys(("delete", "del", "rm", "erase"), "a live end has no request that erases a file"),
                **dict.fromkeys(("rename", "ren", "mv"), "a live end renames no file")}
 
 

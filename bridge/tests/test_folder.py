@@ -364,6 +364,29 @@ class WriteTest(FolderCase):
         self.assertEqual(self.texts(), {"b": b"edited\n"})
         self.assertEqual(folder.changes(), file_of("b", b"edited"))
 
+    def test_what_a_link_erases_is_removed_unless_somebody_has_edited_it(self):
+        self.put(a=b"one\n", b=b"two\n", c=b"three\n")
+        folder = self.open()
+        self.lines(folder)
+        self.put(b=b"edited\n")
+        self.assertEqual(self.write_back(folder, file_of("c", b"three")), (
+            [f"{self.path}/b: a link has erased it, and somebody has edited it meanwhile: it is served as it is here"], None))
+        self.assertEqual(self.texts(), {"b": b"edited\n", "c": b"three\n"})
+        self.assertEqual((folder.changes(), folder.said()), (file_of("b", b"edited"), []))
+
+    def test_a_file_that_is_new_here_is_not_taken_for_one_that_was_erased(self):
+        """The live end listed its files before it was given that one."""
+        self.put(a=b"one\n")
+        folder = self.open()
+        self.lines(folder)
+        self.put(b=b"two\n")
+        self.assertEqual(folder.changes(), file_of("b", b"two"))
+        self.assertEqual(self.write_back(folder, file_of("a", b"one")), ([], None))
+        self.assertEqual(self.texts(), {"a": b"one\n", "b": b"two\n"})
+        self.assertEqual(self.write_back(folder, [*file_of("a", b"one"), *file_of("b", b"two")]), ([], None))
+        self.assertEqual(self.write_back(folder, file_of("a", b"one")), ([], None))
+        self.assertEqual(self.texts(), {"a": b"one\n"})
+
     def test_others_may_not_write_a_new_file(self):
         folder = self.open()
         self.lines(folder)

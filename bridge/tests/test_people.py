@@ -146,7 +146,7 @@ class MistakesTest(unittest.TestCase):
     WAYS = (
         (["server"], "bridge.py: no command 'server' (did you mean serve?); the commands are serve, ask, copy, "),
         (["dir", "1.2::"], "bridge.py: no command 'dir', since a live end has no directories; the commands are "),
-        (["DELETE", "1.2::X"], "bridge.py: no command 'DELETE', since a live end deletes no file that it didn't make; "),
+        (["DELETE", "1.2::X"], "bridge.py: no command 'DELETE', since a live end has no request that erases a file; "),
         (["rename", "1.2::X", "1.2::Y"], "bridge.py: no command 'rename', since a live end renames no file; "),
         ([], "bridge.py: the first word has to be a command: the commands are "),
         (["--node", "1.1", "serve"], "bridge.py: the first word has to be a command: "),

@@ -37,15 +37,15 @@ use Rattle.rec_file.proofs.ForCallers.{AreShort, records_short, body_fits}
 use Rattle.dap_accessed.specs.declared.phase.OpenFile.{OpenFile}
 use Rattle.dap_accessed.specs.declared.verbs.Verb.{Verb}
 use Rattle.dap_accessed.specs.declared.verbs.Verb.TheVariants as verbs
-use Rattle.std.specs.Prelude.{◌==◌, take_while, drop}
+use Rattle.std.specs.Prelude.{◌==◌, ◌&&◌, take_while, drop}
 use Rattle.std.specs.List.{prefix_len, AllByRecursion}
 use Rattle.std.proofs.lemmas.List.Sums.{take_while-cons}
 use Rattle.dap_msg.specs.BothEnds.{message_limit}
 use Rattle.dap_accessed.specs.Standing.{Files, enters}
-use Rattle.dap_accessed.specs.Standing.{index_by, file_at, the_file, ServerState, Fresh, Ready, Opened, Connected, Store, Stopped, Group, Standing, Scene, Effect}
+use Rattle.dap_accessed.specs.Standing.{index_by, index_to_erase, file_at, the_file, ServerState, Fresh, Ready, Opened, Connected, Store, Stopped, Group, Standing, Scene, Effect}
 use Rattle.dap_accessed.specs.Past.{asked_shape, kept_attributes, is_dropping, ordinal_so_far, next_ordinal}
 use Rattle.dap_accessed.specs.Replies.{bare_status, reason_status, sync_status, reason_of, refusal_status, done_status, record_status, too_large, coded, complete_response, org_number, format_number, opened_with}
-use Rattle.dap_accessed.specs.Accesses.{effect_if_permitted, rights_to_create, rights_to_open, make_file, open_file, create_file, access_file, end_stream, complete}
+use Rattle.dap_accessed.specs.Accesses.{effect_if_permitted, rights_to_create, rights_to_erase, erase_file, rights_to_open, make_file, open_file, create_file, access_file, end_stream, complete}
 use Rattle.dap_accessed.specs.Records.{at_number, stream_without_current, verb_of, get_pick, got, record_got, Change, Putting, Updating, effect_of_change, fits_limit, filedata_of}
 use Rattle.dap_accessed.specs.Transfers.{fetch, fetch_ends, continue_refused, continue_fetch, store_one, stored_answers, continue_store}
 use Rattle.dap_msg.specs.BothEnds.{is_too_small}
@@ -171,11 +171,17 @@ module _ (own : ServerSetup) (small_own : FieldsFit (Config own.identity)) (scen
   creating name fac (Some at) shape g = (reasoned scene.limit least own.full 0x4000 1 [] (lit< tt) (lit≤ tt), tt)
   creating name fac None shape g = permitting (rights_to_create fac) _ (making name fac shape g)
 
+  erasing : (at : Option ℕ) → Sends (erase_file own scene at)
+  erasing None = (bare scene.limit least 0x4032 (lit< tt), tt)
+  erasing (Some at) = permitting rights_to_erase _ (short scene.limit least Ack answers_fit.ack, (ended scene.limit least, tt))
+
   accessing : (a : AccessFields) (shape : Option Shape) → Good shape → Sends (access_file own scene a shape)
   accessing a shape g =
       let found = index_by own.names a.name scene.files in
       either (a.func == codes.accfunc.opening) _ _ (opening a.fac found (index-within own.names a.name scene.files))
-      (either (a.func == codes.accfunc.creating) _ _ (creating a.name a.fac found shape g) (bare scene.limit least 0x20C0 (lit< tt), tt))
+      (either (a.func == codes.accfunc.creating) _ _ (creating a.name a.fac found shape g)
+      (either (own.full && a.func == codes.accfunc.erasing) _ _ (erasing (index_to_erase own.names a.name scene.files))
+      (bare scene.limit least 0x20C0 (lit< tt), tt)))
 
   ending-sends : (o : OpenFile) (state : ServerState) → Sends (end_stream scene o state)
   ending-sends o (Opened p) = (bare scene.limit least (codes.out_of_sequence codes.types.accomp) (lit< tt), tt)

@@ -1,6 +1,6 @@
 -- Where no two files have one name at first, no two ever have.
 use Rattle.std.proofs.Common.{◌≡◌, ℕ, ◌+◌, Bool, true, false, List, [], ◌∷◌, ◌++◌, Option, Some, None, Result, Ok, Err, refl, sym, subst, append_assoc}
-use Rattle.std.specs.Prelude.{◌==◌, if◌then◌else◌, take_while, drop}
+use Rattle.std.specs.Prelude.{◌==◌, ◌&&◌, if◌then◌else◌, take_while, drop}
 use Rattle.std.specs.List.{prefix_len, remove}
 use Rattle.std.proofs.lemmas.List.{append-nil}
 use Rattle.dap_msg.specs.Codes as codes
@@ -22,9 +22,9 @@ use Rattle.dap_accessed.specs.declared.verbs.Verb.{Verb}
 use Rattle.dap_accessed.specs.declared.verbs.Verb.TheVariants as verbs
 use Rattle.dap_accessed.specs.Setup.{lacks, same_name}
 use Rattle.dap_accessed.specs.Replies.{bare_status}
-use Rattle.dap_accessed.specs.Standing.{Files, new_file, index_by, with_file, the_file, ServerState, Fresh, Ready, Opened, Connected, Store, Stopped, Group, Standing, Scene, Effect, start, enters}
+use Rattle.dap_accessed.specs.Standing.{Files, new_file, index_by, index_to_erase, with_file, the_file, ServerState, Fresh, Ready, Opened, Connected, Store, Stopped, Group, Standing, Scene, Effect, start, enters}
 use Rattle.dap_accessed.specs.Past.{asked_shape, kept_attributes, is_dropping}
-use Rattle.dap_accessed.specs.Accesses.{rights_to_create, rights_to_open, make_file, open_file, create_file, access_file, end_stream, complete}
+use Rattle.dap_accessed.specs.Accesses.{rights_to_create, rights_to_erase, erase_file, rights_to_open, make_file, open_file, create_file, access_file, end_stream, complete}
 use Rattle.dap_accessed.specs.Records.{at_number, verb_of, get_pick, got, record_got, Change, Putting, Updating, effect_of_change, fits_limit}
 use Rattle.dap_accessed.specs.Transfers.{fetch, fetch_ends, continue_fetch}
 use Rattle.dap_accessed.specs.Effects.{Begun, Turn, Does, BeginsGroup, control_opened, control_connected, turn_in, turn_of, effect_with}
@@ -75,11 +75,16 @@ module _ (own : ServerSetup) where
     creating name fac (Some at) shape e = stays
     creating name fac None shape e = either (lacks own.most (rights_to_create fac)) _ _ stays (making name fac shape e)
 
+    erasing : (found : Option ℕ) → Leaves (erase_file own scene found)
+    erasing None = stays
+    erasing (Some at) = either (lacks own.most rights_to_erase) _ _ stays (λ h. distinct-without same scene.files at h)
+
     accessing : (a : AccessFields) (shape : Option Shape) → Leaves (access_file own scene a shape)
     accessing a shape =
         let found = index_by own.names a.name scene.files in
         either (a.func == codes.accfunc.opening) _ _ (opening a.fac found)
-        (either (a.func == codes.accfunc.creating) _ _ (creating a.name a.fac found shape refl) stays)
+        (either (a.func == codes.accfunc.creating) _ _ (creating a.name a.fac found shape refl)
+        (either (own.full && a.func == codes.accfunc.erasing) _ _ (erasing (index_to_erase own.names a.name scene.files)) stays))
 
     purging : (o : OpenFile) (new : Bool) → Keeps scene.files (if new then remove scene.files o.at else scene.files)
     purging o true h = distinct-without same scene.files o.at h

@@ -3,7 +3,7 @@
 use Rattle.std.proofs.Common.{◌≡◌, ℕ, ◌+◌, Bool, true, false, List, [], ◌∷◌, ◌++◌, Option, Some, None, Result, Ok, Err, refl, ap, sym, subst, ◌∙◌, append_assoc}
 use Rattle.dap_accessed.specs.Setup.{lacks}
 use Rattle.dap_accessed.specs.declared.setup.ServerSetup.{ServerSetup}
-use Rattle.std.specs.Prelude.{if◌then◌else◌, ◌==◌, take_while, drop, unwrap_or}
+use Rattle.std.specs.Prelude.{if◌then◌else◌, ◌==◌, ◌&&◌, take_while, drop, unwrap_or}
 use Rattle.std.specs.FinMap as map
 use Rattle.std.specs.List.{prefix_len}
 use Rattle.std.proofs.lemmas.List.{append-nil}
@@ -23,10 +23,10 @@ use Rattle.rec_file.specs.Acts.{StreamVal, act, get_record}
 use Rattle.dap_accessed.specs.declared.phase.OpenFile.{OpenFile}
 use Rattle.dap_accessed.specs.declared.verbs.Verb.{Verb}
 use Rattle.dap_accessed.specs.declared.verbs.Verb.TheVariants as verbs
-use Rattle.dap_accessed.specs.Standing.{Files, index_by, the_file, ServerState, Fresh, Ready, Opened, Connected, Store, Stopped, Group, Standing, Scene, Effect, start, enters}
+use Rattle.dap_accessed.specs.Standing.{Files, index_by, index_to_erase, the_file, ServerState, Fresh, Ready, Opened, Connected, Store, Stopped, Group, Standing, Scene, Effect, start, enters}
 use Rattle.dap_accessed.specs.Past.{asked_shape, kept_attributes, is_dropping}
 use Rattle.dap_accessed.specs.Replies.{bare_status, too_large}
-use Rattle.dap_accessed.specs.Accesses.{rights_to_create, rights_to_open, make_file, open_file, create_file, access_file, end_stream, complete}
+use Rattle.dap_accessed.specs.Accesses.{rights_to_create, rights_to_erase, erase_file, rights_to_open, make_file, open_file, create_file, access_file, end_stream, complete}
 use Rattle.dap_accessed.specs.Records.{verb_of, get_pick, got, record_got, at_number, filedata_of, fits_limit, stream_without_current, Change, Putting, Updating, effect_of_change}
 use Rattle.dap_accessed.specs.Transfers.{fetch, fetch_ends, continue_fetch}
 use Rattle.dap_accessed.specs.Effects.{Begun, Turn, Does, BeginsGroup, control_opened, control_connected, turn_in, turn_of, effect_with}
@@ -63,11 +63,16 @@ module _ (scene : Scene) where
   creating own name fac (Some at) shape = refl
   creating own name fac None shape = either (lacks own.most (rights_to_create fac)) _ _ refl (making name fac shape)
 
+  erasing : (own : ServerSetup) (at : Option ℕ) → Late (erase_file own scene at)
+  erasing own None = refl
+  erasing own (Some at) = either (lacks own.most rights_to_erase) _ _ refl refl
+
   accessing : (own : ServerSetup) (a : AccessFields) (shape : Option Shape) → Late (access_file own scene a shape)
   accessing own a shape =
       let found = index_by own.names a.name scene.files in
       either (a.func == codes.accfunc.opening) _ _ (opening own a.fac found)
-      (either (a.func == codes.accfunc.creating) _ _ (creating own a.name a.fac found shape) refl)
+      (either (a.func == codes.accfunc.creating) _ _ (creating own a.name a.fac found shape)
+      (either (own.full && a.func == codes.accfunc.erasing) _ _ (erasing own (index_to_erase own.names a.name scene.files)) refl))
 
   ended : (o : OpenFile) (state : ServerState) → Late (end_stream scene o state)
   ended o (Opened p) = refl

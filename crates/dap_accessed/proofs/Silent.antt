@@ -1,6 +1,6 @@
 -- Where an item has no answer and isn't stored, it takes no memory.
 use Rattle.std.proofs.Common.{◌≡◌, ◌≢◌, ℕ, Bool, true, false, List, [], ◌∷◌, ◌++◌, map, Option, Some, None, Result, Ok, Err, refl, ap, ◌∙◌}
-use Rattle.std.specs.Prelude.{◌+◌, ◌==◌, if◌then◌else◌, take_while, drop, unwrap_or}
+use Rattle.std.specs.Prelude.{◌+◌, ◌==◌, ◌&&◌, if◌then◌else◌, take_while, drop, unwrap_or}
 use Rattle.std.specs.FinMap.{get}
 use Rattle.std.specs.List.{prefix_len}
 use Rattle.dap_msg.specs.Codes as codes
@@ -23,10 +23,10 @@ use Rattle.dap_accessed.specs.declared.phase.Phase.{Phase}
 use Rattle.dap_accessed.specs.declared.phase.Phase.TheVariants as phases
 use Rattle.dap_accessed.specs.declared.verbs.Verb.{Verb}
 use Rattle.dap_accessed.specs.declared.verbs.Verb.TheVariants as verbs
-use Rattle.dap_accessed.specs.Standing.{Files, the_file, index_by, ServerState, Group, Standing, Scene, Effect, Fresh, Ready, Opened, Connected, Store, Stopped, enters}
+use Rattle.dap_accessed.specs.Standing.{Files, the_file, index_by, index_to_erase, ServerState, Group, Standing, Scene, Effect, Fresh, Ready, Opened, Connected, Store, Stopped, enters}
 use Rattle.dap_accessed.specs.Replies.{bare_status}
 use Rattle.dap_accessed.specs.Past.{is_filedata, is_dropping, ordinal_so_far}
-use Rattle.dap_accessed.specs.Accesses.{rights_to_create, rights_to_open, make_file, open_file, create_file, access_file, end_stream, complete}
+use Rattle.dap_accessed.specs.Accesses.{rights_to_create, rights_to_erase, erase_file, rights_to_open, make_file, open_file, create_file, access_file, end_stream, complete}
 use Rattle.dap_accessed.specs.Records.{Change, Putting, Updating, got, record_got, at_number, verb_of, fits_limit, filedata_of}
 use Rattle.dap_accessed.specs.Transfers.{fetch, fetch_ends, continue_fetch, continue_refused}
 use Rattle.dap_accessed.specs.Effects.{Begun, effect_with, control_opened, control_connected}
@@ -64,11 +64,16 @@ module _ (scene : Scene) where
   creating own name fac (Some at) shape = λ e. cc
   creating own name fac None shape = either (lacks own.most (rights_to_create fac)) _ _ (λ e. cc) (making name fac shape)
 
+  erasing : (own : ServerSetup) (at : Option ℕ) → Answers (erase_file own scene at)
+  erasing own None = λ e. cc
+  erasing own (Some at) = either (lacks own.most rights_to_erase) _ _ (λ e. cc) (λ e. cc)
+
   accessing : (own : ServerSetup) (a : AccessFields) (shape : Option Shape) → Answers (access_file own scene a shape)
   accessing own a shape =
       let found = index_by own.names a.name scene.files in
       either (a.func == codes.accfunc.opening) _ _ (opening own a.fac found)
-      (either (a.func == codes.accfunc.creating) _ _ (creating own a.name a.fac found shape) (λ e. cc))
+      (either (a.func == codes.accfunc.creating) _ _ (creating own a.name a.fac found shape)
+      (either (own.full && a.func == codes.accfunc.erasing) _ _ (erasing own (index_to_erase own.names a.name scene.files)) (λ e. cc)))
 
   ending-stream : (o : OpenFile) (state : ServerState) → Answers (end_stream scene o state)
   ending-stream o (Opened p) = λ e. cc

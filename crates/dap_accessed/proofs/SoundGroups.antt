@@ -36,9 +36,9 @@ use Rattle.std.specs.Prelude.{◌==◌, take_while, drop}
 use Rattle.std.specs.List.{prefix_len, remove}
 use Rattle.dap_msg.specs.Codes as codes
 use Rattle.dap_accessed.specs.Replies.{bare_status}
-use Rattle.dap_accessed.specs.Standing.{Files, index_of, index_by, with_file, the_file, ServerState, Fresh, Ready, Opened, Connected, Store, Stopped, Group, Standing, Scene, Effect, start, enters}
+use Rattle.dap_accessed.specs.Standing.{Files, index_of, index_by, index_to_erase, with_file, the_file, ServerState, Fresh, Ready, Opened, Connected, Store, Stopped, Group, Standing, Scene, Effect, start, enters}
 use Rattle.dap_accessed.specs.Past.{asked_shape, kept_attributes, is_dropping, ordinal_so_far}
-use Rattle.dap_accessed.specs.Accesses.{rights_to_create, rights_to_open, make_file, open_file, create_file, access_file, end_stream, complete}
+use Rattle.dap_accessed.specs.Accesses.{rights_to_create, rights_to_erase, erase_file, rights_to_open, make_file, open_file, create_file, access_file, end_stream, complete}
 use Rattle.dap_accessed.specs.Records.{at_number, verb_of, get_pick, got, record_got, effect_of_outcome, Change, Putting, Updating, effect_of_change, fits_limit}
 use Rattle.dap_accessed.specs.Transfers.{fetch, fetch_ends, continue_fetch, store_one}
 use Rattle.dap_msg.specs.BothEnds.{is_too_small}
@@ -156,14 +156,22 @@ module _ (scene : Scene) (files : AreFiles scene.files) (least : 64 ≤ scene.li
   creating own name fac None shape e g =
       either (lacks own.most (rights_to_create fac)) _ _ (entering Ready tt) (making name fac shape (none_exact own.names name scene.files e) g)
 
+  without : (at : ℕ) → IsSoundAt (record scene { files = remove scene.files at }) Ready
+  without at = record { files = record { files = all-without scene.files at files.files; distinct = distinct-without bytes_eq scene.files at files.distinct }; opened = tt; least = least; most = most }
+
+  erasing : (own : ServerSetup) (at : Option ℕ) → Leaves (erase_file own scene at)
+  erasing own None = entering Ready tt
+  erasing own (Some at) = either (lacks own.most rights_to_erase) _ _ (entering Ready tt) (without at)
+
   accessing : (own : ServerSetup) (a : AccessFields) (shape : Option Shape) → Good shape → Leaves (access_file own scene a shape)
   accessing own a shape g =
       let found = index_by own.names a.name scene.files in
       either (a.func == codes.accfunc.opening) _ _ (opening own a.fac found (index-within own.names a.name scene.files))
-      (either (a.func == codes.accfunc.creating) _ _ (creating own a.name a.fac found shape refl g) (entering Ready tt))
+      (either (a.func == codes.accfunc.creating) _ _ (creating own a.name a.fac found shape refl g)
+      (either (own.full && a.func == codes.accfunc.erasing) _ _ (erasing own (index_to_erase own.names a.name scene.files)) (entering Ready tt)))
 
   purging : (o : OpenFile) (new : Bool) → IsSoundAt (record scene { files = if new then remove scene.files o.at else scene.files }) Ready
-  purging o true = record { files = record { files = all-without scene.files o.at files.files; distinct = distinct-without bytes_eq scene.files o.at files.distinct }; opened = tt; least = least; most = most }
+  purging o true = without o.at
   purging o false = entering Ready tt
 
   ended-soundly : (o : OpenFile) (state : ServerState) → o.at < length scene.files → Leaves (end_stream scene o state)

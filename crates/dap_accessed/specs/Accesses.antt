@@ -1,5 +1,5 @@
 -- Opening and making files, and what ends an access (DAP 5.6.0, Access and Access Complete messages).
-use Rattle.std.specs.Prelude.{ℕ, true, false, ◌==◌, if◌then◌else◌, List, [], ◌∷◌, ◌++◌, length, Option, Some, None}
+use Rattle.std.specs.Prelude.{ℕ, true, false, ◌&&◌, ◌==◌, if◌then◌else◌, List, [], ◌∷◌, ◌++◌, length, Option, Some, None}
 use Rattle.std.specs.List.{remove}
 use Rattle.dap_msg.specs.Codes as codes
 use Rattle.dap_msg.specs.declared.message.Message.{Message}
@@ -10,8 +10,8 @@ use Rattle.rec_file.specs.declared.refusals.Refusal.TheVariants.{NotPermitted}
 use Rattle.dap_accessed.specs.declared.phase.OpenFile.{OpenFile}
 use Rattle.dap_accessed.specs.declared.setup.ServerSetup.{ServerSetup}
 use Rattle.dap_accessed.specs.Setup.{lacks}
-use Rattle.dap_accessed.specs.Standing.{Files, new_file, index_by, file_at, ServerState, Ready, Opened, Scene, Effect, enters}
-use Rattle.dap_accessed.specs.Replies.{bare_status, reason_of, refused_access, opened_with, complete_response}
+use Rattle.dap_accessed.specs.Standing.{Files, new_file, index_by, index_to_erase, file_at, ServerState, Ready, Opened, Scene, Effect, enters}
+use Rattle.dap_accessed.specs.Replies.{bare_status, reason_of, refused_access, opened_with, erased_with, complete_response}
 
 -- the operations that FAC allows
 abbrev pub rights_of : ℕ → Rights
@@ -26,6 +26,10 @@ rights_of fac =
 -- FAC 0 counts as GET on open, and as PUT on create
 abbrev pub fac_or : (fac usual : ℕ) → ℕ
 fac_or fac usual = if fac == 0 then usual else fac
+
+-- the rights that an Access to erase a file asks for, whatever its FAC is: DEL alone
+abbrev pub rights_to_erase : Rights
+rights_to_erase = record { get = false; put = false; upd = false; del = true }
 
 -- a refused Access leaves the end in Ready
 abbrev pub refuse_access : Scene → Message → Effect
@@ -64,12 +68,20 @@ abbrev pub create_file : ServerSetup → Scene → (name : List ℕ) → (fac : 
 create_file own scene name fac (Some at) shape = refuse_access scene (refused_access codes.reasons.file_exists)
 create_file own scene name fac None shape = effect_if_permitted own (rights_to_create fac) scene (make_file scene name fac shape)
 
--- an Access, by ACCFUNC: open and create are supported
+-- Removes the file at this index of the table, if there is one: those after it move up. It is acknowledged, and the
+-- access is complete.
+abbrev pub erase_file : ServerSetup → Scene → Option ℕ → Effect
+erase_file own scene None = refuse_access scene (bare_status codes.stscode.file_not_found)
+erase_file own scene (Some at) =
+    effect_if_permitted own rights_to_erase scene (enters (record scene { files = remove scene.files at }) Ready erased_with)
+
+-- an Access, by ACCFUNC: open and create are supported, and erase by a full server
 abbrev pub access_file : ServerSetup → Scene → AccessFields → Option Shape → Effect
 access_file own scene access shape =
     let found = index_by own.names access.name scene.files in
     if access.func == codes.accfunc.opening then open_file own scene access.fac found
     else if access.func == codes.accfunc.creating then create_file own scene access.name access.fac found shape
+    else if own.full && access.func == codes.accfunc.erasing then erase_file own scene (index_to_erase own.names access.name scene.files)
     else refuse_access scene (bare_status (codes.unsupported_code codes.types.access))
 
 -- ---- Access Complete.

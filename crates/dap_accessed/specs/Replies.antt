@@ -84,6 +84,10 @@ coded full message = message
 abbrev pub complete_response : Message
 complete_response = complete_with codes.cmpfunc.response
 
+-- an erased file is answered by an Acknowledge, and its access is complete
+abbrev pub erased_with : List Message
+erased_with = Ack ∷ complete_response ∷ []
+
 -- the code of ORG
 abbrev pub org_number : Org → ℕ
 org_number Seq = codes.org.sequential

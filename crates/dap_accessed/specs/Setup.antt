@@ -1,7 +1,9 @@
 -- What a server is set up with: what it says of itself, how it compares names, the rights that an Access may ask for,
 -- and whether it is full: then it does more than a plain one.
-use Rattle.std.specs.Prelude.{ℕ, ◌≤◌, Bool, true, false, not, ◌&&◌, ◌||◌, List, bytes_eq}
+use Rattle.std.specs.Prelude.{ℕ, ◌≤◌, ◌==◌, Bool, true, false, not, ◌&&◌, ◌||◌, List, bytes_eq}
 use Rattle.file_names.specs.Folds.{fold}
+use Rattle.file_names.specs.Versions.{version_wanted}
+use Rattle.file_names.specs.declared.versions.Wanted.TheVariants.{Latest, Version, All, Nothing}
 use Rattle.dap_msg.specs.BothEnds.{min_buffer, plain_identity}
 use Rattle.dap_msg.specs.Fitting.{FieldsFit}
 use Rattle.dap_msg.specs.declared.message.Message.TheVariants.{Config}
@@ -14,6 +16,10 @@ use Rattle.dap_accessed.specs.declared.setup.ServerSetup.{ServerSetup}
 abbrev pub same_name : Names → (one other : List ℕ) → Bool
 same_name Exact one other = bytes_eq one other
 same_name Folded one other = bytes_eq (fold one) (fold other)
+
+-- a name asks for the latest version, or for number 1
+abbrev pub asks_for_one : List ℕ → Bool
+asks_for_one name = elim (version_wanted name) [ Latest ↦ true | Version n ↦ n == 1 | All ↦ false | Nothing ↦ false ]
 
 -- every right
 abbrev pub all_rights : Rights

@@ -6,7 +6,7 @@ ghost use Rattle.dap_msg.specs.Canon.{Fits};
 ghost use Rattle.dap_msg.specs.Sizes.{file_data_size};
 ghost use Rattle.dap_msg.specs.BothEnds.{four_bytes, min_buffer};
 ghost use Rattle.rec_file.specs.Limits.{max_record};
-ghost use Rattle.dap_accessed.specs.Replies.{attributes_for, coded, complete_response, format_number, opened_with, org_number, status, too_large};
+ghost use Rattle.dap_accessed.specs.Replies.{attributes_for, coded, complete_response, erased_with, format_number, opened_with, org_number, status, too_large};
 ghost use Rattle.dap_accessed.specs.Inner.Written.{AddsAnswer, FitsIn, IsAtMost, IsShortReply, IsWritableReply, reply_message, most_bytes};
 ghost use Rattle.dap_accessed.specs.Served.{AreAnswers};
 
@@ -236,6 +236,17 @@ pub(crate) fn opening(alloc: Global, limit: u16, shape: Shape) -> Result<Vec<Vec
         &mut answers,
     )?;
     append(alloc, limit, Answer::Ack, &mut answers)?;
+    Ok(answers)
+}
+
+/// Returns the answers to an Access that erases a file.
+pub(crate) fn erased(alloc: Global, limit: u16) -> Result<Vec<Vec<u8>>, NoMemory>
+    requires { min_buffer ≤ limit }
+    ensures { IfOk result (AreAnswers limit erased_with) }
+{
+    let mut answers = Vec::new(alloc);
+    append(alloc, limit, Answer::Ack, &mut answers)?;
+    append(alloc, limit, Answer::Complete, &mut answers)?;
     Ok(answers)
 }
 

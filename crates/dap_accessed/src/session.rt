@@ -11,25 +11,25 @@ ghost use Rattle.dap_accessed.specs.Accesses.{fac_or, rights_of, rights_to_creat
 ghost use Rattle.dap_accessed.specs.Groups.{GroupedItems};
 ghost use Rattle.dap_accessed.specs.Replies.{bare_status, coded, refused_access};
 ghost use Rattle.dap_accessed.specs.Served.{AreAnswers};
-ghost use Rattle.dap_accessed.specs.Sessions.{IsIn, IsOpenIn, IsSilentIn, ServesItem, asked_in, with_files, new_session, open_at, phase_moved_up, refused_session, session_with, there_at, would_open};
+ghost use Rattle.dap_accessed.specs.Sessions.{IsIn, IsOpenIn, IsSilentIn, ServesItem, asked_in, with_files, new_session, open_at, phase_moved_up, refused_session, session_with, erased_if, there_at, there_if, would_open};
 ghost use Rattle.dap_accessed.specs.Setup.{IsServerSetup};
 ghost use Rattle.dap_accessed.specs.Inner.Sessions.{Enters};
-ghost use Rattle.dap_accessed.specs.Inner.Moves.{Makes, Moves, creates, is_silent, move, opens, opens_nothing};
+ghost use Rattle.dap_accessed.specs.Inner.Moves.{Makes, Moves, creates, erases, is_silent, move, opens, opens_nothing};
 ghost use Rattle.dap_accessed.specs.Inner.Steps.{CanDo, step_move, is_quiet};
 ghost use Rattle.dap_accessed.specs.Inner.Written.{IsShortReply, reply_message};
 ghost use Rattle.dap_accessed.specs.declared.phase.Phase.TheVariants as phases;
 ghost use Rattle.dap_accessed.specs.declared.step.Step.TheVariants as steps;
 
-use crate::answers::{Answer, one, opening};
+use crate::answers::{Answer, erased, one, opening};
 use crate::fault::NoMemory;
 use crate::phase::{OpenFile, Phase};
 use crate::served::Served;
-use crate::setup::{ServerSetup, rights_for_access, rights_of_fac};
+use crate::setup::{RIGHTS_TO_ERASE, ServerSetup, rights_for_access, rights_of_fac};
 use crate::step::Step;
 use crate::table::FileTable;
 use dap_msg::codes::{
-    ACCESS_REFUSED, ACCFUNC_CREATE, ACCFUNC_OPEN, FILE_NOT_FOUND, REASON_BAD_ATTRIBUTES,
-    REASON_FILE_EXISTS, REASON_NOT_PERMITTED, TYPE_ACCESS, unsupported,
+    ACCESS_REFUSED, ACCFUNC_CREATE, ACCFUNC_ERASE, ACCFUNC_OPEN, FILE_NOT_FOUND,
+    REASON_BAD_ATTRIBUTES, REASON_FILE_EXISTS, REASON_NOT_PERMITTED, TYPE_ACCESS, unsupported,
 };
 use dap_msg::{AccessFields, FileAccess, Item, MIN_BUFFER, MessageValue};
 use rec_file::{Format, Org, RecordFile, Rights, Shape};
@@ -119,18 +119,41 @@ fn there_at(at: usize, fac: u32) -> OpenFile
     }
 }
 
-/// Returns the file that an Access would open, where it names one that is there, and asks for no right too many.
+/// Returns the file that an Access would open, where there is one at this index, and it asks for no right too many.
+fn there_if(setup: &ServerSetup, fac: u32, found: Option<usize>) -> Option<OpenFile>
+    ensures { result ≡ there_if setup.now fac found }
+{
+    if setup.lacks(rights_for(fac, FileAccess::GET)) {
+        return None;
+    }
+    Some(there_at(found?, fac))
+}
+
+/// Returns the file that an Access would erase, as one that has it alone, where there is one at this index, and it asks
+/// for no right too many.
+fn erased_if(setup: &ServerSetup, found: Option<usize>) -> Option<OpenFile>
+    ensures { result ≡ erased_if setup.now found }
+{
+    if setup.lacks(RIGHTS_TO_ERASE) {
+        return None;
+    }
+    Some(OpenFile {
+        at: found?,
+        is_new: false,
+        rights: RIGHTS_TO_ERASE,
+    })
+}
+
+/// Returns the file that an Access would open or erase, where it names one that is there, and asks for no right too many.
 fn would_open(setup: &ServerSetup, files: &FileTable, access: &AccessFields<'_>) -> Option<OpenFile>
     ensures { result ≡ would_open setup.now files.now access.now }
 {
-    if access.func != ACCFUNC_OPEN {
-        return None;
+    let name = access.name.0;
+    match access.func {
+        ACCFUNC_OPEN => there_if(setup, access.fac, files.find_by(setup.names, name)),
+        ACCFUNC_ERASE if setup.full => erased_if(setup, files.find_to_erase(setup.names, name)),
+        _ => None,
     }
-    if setup.lacks(rights_for(access.fac, FileAccess::GET)) {
-        return None;
-    }
-    let at = files.find_by(setup.names, access.name.0)?;
-    Some(there_at(at, access.fac))
 }
 
 impl Session {
@@ -199,8 +222,8 @@ impl Session {
         }
     }
 
-    /// Returns the file that an item would open: an Access, while none is open, that names a file which is there, and
-    /// asks for no right too many.
+    /// Returns the file that an item would open, or erase: an Access, while none is open, that names a file which is
+    /// there, and asks for no right too many.
     pub fn asked(&self, files: &FileTable, item: &Item<'_>) -> Option<OpenFile>
         ensures { result ≡ asked_in self.now.setup files.now self.now.phase item.now }
     {
@@ -305,7 +328,7 @@ impl Session {
         self.enter(Phase::Ready)
     }
 
-    /// Answers an Access, which opens a file, creates one or is refused.
+    /// Answers an Access, which opens a file, creates one, erases one or is refused.
     fn access(
         &mut self,
         files: &mut FileTable,
@@ -322,6 +345,7 @@ impl Session {
         match func {
             ACCFUNC_OPEN => self.open(files, name, fac),
             ACCFUNC_CREATE => self.create(files, name, fac),
+            ACCFUNC_ERASE if self.setup.full => self.erase(files, name),
             _ => self.refuse_access(files, Answer::Status(unsupported(TYPE_ACCESS))),
         }
     }
@@ -400,6 +424,27 @@ impl Session {
             is_new: true,
             rights: rights_for(fac, FileAccess::PUT),
         });
+        Ok(answers)
+    }
+
+    /// Answers an Access that erases a file. It is refused where there is none, and then where it asks for a right too
+    /// many.
+    fn erase(&mut self, files: &mut FileTable, name: &[u8]) -> Result<Vec<Vec<u8>>, NoMemory>
+        ensures ok { Makes (erases (with_files files.old self.old) name.now)
+            (with_files files.old self.old) (with_files files.new self.new) result }
+        ensures there { OnOk result (IsOpenIn files.new self.new.phase) }
+        ensures err { OnErr result (with_files files.new self.new ≡ with_files files.old self.old) }
+    {
+        let Some(at) = files.find_to_erase(self.setup.names, name) else {
+            return self.refuse_access(files, Answer::Status(FILE_NOT_FOUND));
+        };
+        if self.setup.lacks(RIGHTS_TO_ERASE) {
+            return self.refuse_access(files, refused_access(REASON_NOT_PERMITTED));
+        }
+        let answers = erased(self.alloc, self.limit)?;
+        files.remove(at);
+        self.kept = Some(PLAIN);
+        self.phase = Phase::Ready;
         Ok(answers)
     }
 

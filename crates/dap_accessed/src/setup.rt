@@ -2,10 +2,10 @@
 
 ghost use Rattle.std.specs.Prelude.{◌≡◌};
 ghost use Rattle.dap_accessed.specs.Accesses.{rights_of};
-ghost use Rattle.dap_accessed.specs.Setup.{all_rights, lacks, plain_setup, same_name};
+ghost use Rattle.dap_accessed.specs.Setup.{all_rights, asks_for_one, lacks, plain_setup, same_name};
 
 use dap_msg::{Configuration, FileAccess};
-use file_names::is_alike;
+use file_names::{Wanted, is_alike, version_wanted};
 use rec_file::Rights;
 
 /// How the names of files are compared.
@@ -29,6 +29,13 @@ impl Names {
     }
 }
 
+/// Returns whether a name asks for the latest version of a file, or for number 1.
+pub(crate) fn asks_for_one(name: &[u8]) -> bool
+    ensures { result ≡ asks_for_one name.now }
+{
+    matches!(version_wanted(name), Wanted::Latest | Wanted::Version(1))
+}
+
 /// What a server is set up with.
 #[derive(Clone, Copy)]
 pub struct ServerSetup {
@@ -39,7 +46,7 @@ pub struct ServerSetup {
     /// The rights that an Access may ask for.
     pub most: Rights,
     /// Whether it does what programs at a prompt need, which a plain server doesn't: the Status of a refusal with a
-    /// reason has RMS's code ([`dap_msg::codes::rms_code`]).
+    /// reason has RMS's code ([`dap_msg::codes::rms_code`]), and an Access may erase a file.
     pub full: bool,
 }
 
@@ -48,6 +55,14 @@ pub const ALL_RIGHTS: Rights = Rights {
     get: true,
     put: true,
     upd: true,
+    del: true,
+};
+
+/// What an Access to erase a file asks for, whatever its FAC is.
+pub(crate) const RIGHTS_TO_ERASE: Rights = Rights {
+    get: false,
+    put: false,
+    upd: false,
     del: true,
 };
 

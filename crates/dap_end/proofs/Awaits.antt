@@ -1,7 +1,7 @@
 -- A request, message by message: what the server is sent of it, what it answers, and what it waits for then, whatever
 -- other links have open.
 use Rattle.std.proofs.Common.{◌≡◌, ℕ, refl, sym, ◌∙◌, true, false, Bool, subst, ap, append_assoc, List, [], ◌∷◌, ◌++◌, map, Option, Some, None, inl, inr}
-use Rattle.std.specs.Prelude.{◌⊎◌, if◌then◌else◌, ◌==◌, IfSome, IsTrue}
+use Rattle.std.specs.Prelude.{◌⊎◌, if◌then◌else◌, ◌==◌, ◌&&◌, IfSome, IsTrue}
 use Rattle.std.proofs.lemmas.List.{append-nil, map-append}
 use Rattle.rec_file.specs.declared.shapes.Shape.{Shape}
 use Rattle.rec_file.specs.Shapes.{is_shape}
@@ -16,12 +16,12 @@ use Rattle.dap_msg.specs.BothEnds.{complete_with}
 use Rattle.dap_msg.specs.Codes as codes
 use Rattle.dap_accessed.specs.declared.phase.OpenFile.{OpenFile}
 use Rattle.dap_accessed.specs.declared.setup.ServerSetup.{ServerSetup}
-use Rattle.dap_accessed.specs.Accesses.{access_file, create_file, open_file, refuse_access}
+use Rattle.dap_accessed.specs.Accesses.{access_file, create_file, erase_file, open_file, refuse_access}
 use Rattle.dap_accessed.specs.Effects.{Begun, Does, told}
 use Rattle.dap_accessed.specs.Groups.{GroupedItems, answers_in}
 use Rattle.dap_accessed.specs.Past.{asked_shape, is_dropping, kept_attributes, ordinal_so_far}
 use Rattle.dap_accessed.specs.Replies.{bare_status}
-use Rattle.dap_accessed.specs.Standing.{Effect, Files, Group, Scene, ServerState, Standing, enters, index_by}
+use Rattle.dap_accessed.specs.Standing.{Effect, Files, Group, Scene, ServerState, Standing, enters, index_by, index_to_erase}
 use Rattle.dap_accessed.specs.Standing as at
 use Rattle.dap_accessed.specs.Transfers.{store_one}
 use Rattle.dap_accessed.proofs.ForCallers.{AllFiles, after_item, good-shape, index-within, next_group}
@@ -62,6 +62,7 @@ module _ (own_a : Configuration) (own_b : ServerSetup) (phase : Phase) (limit_a 
     pub all : left ≡ Access access ∷ []
     pub whole : begun ≡ None
     pub hears : (l : List Item) → hear r l ≡ hear_attributes l
+    pub opens : (access.func == codes.accfunc.erasing) ≡ false
     pub is_ready : state ≡ at.Ready
     pub was : phase ≡ Ready
     pub limits : AreLimits own_a own_b limit limit_a
@@ -173,16 +174,22 @@ module _ (own_a : Configuration) (own_b : ServerSetup) (scene : Scene) (limit_a 
   abbrev Opens : Effect → Type 0
   Opens e = Comes own_a own_b scene limit_a h Ready hear_attributes e
 
-  by_func : (opening creating : Bool) (name : List ℕ) (fac : ℕ) (found : Option ℕ) (shape : Option Shape) → Opens (open_file own_b scene fac found) → Opens (create_file own_b scene name fac found shape)
-      → Opens (if opening then open_file own_b scene fac found else if creating then create_file own_b scene name fac found shape else refuse_access scene (bare_status (codes.unsupported_code codes.types.access)))
-  by_func true creating name fac found shape o c = o
-  by_func false true name fac found shape o c = c
-  by_func false false name fac found shape o c = (_, refl, h)
+  by_func : (opening creating erasing : Bool) → erasing ≡ false → (name : List ℕ) (fac : ℕ) (found erased : Option ℕ) (shape : Option Shape) → Opens (open_file own_b scene fac found) → Opens (create_file own_b scene name fac found shape)
+      → Opens (if opening then open_file own_b scene fac found else if creating then create_file own_b scene name fac found shape else if erasing then erase_file own_b scene erased else refuse_access scene (bare_status (codes.unsupported_code codes.types.access)))
+  by_func true creating erasing e name fac found erased shape o c = o
+  by_func false true erasing e name fac found erased shape o c = c
+  by_func false false true e name fac found erased shape o c = cc
+  by_func false false false e name fac found erased shape o c = (_, refl, h)
 
-  accesses : (access : AccessFields) (shape : Option Shape) → AllFiles scene.files → IfSome shape (λ s. IsTrue (is_shape s)) → Opens (access_file own_b scene access shape)
-  accesses access shape all good =
+  never : (full erasing : Bool) → erasing ≡ false → (full && erasing) ≡ false
+  never true erasing e = e
+  never false erasing e = refl
+
+  accesses : (access : AccessFields) (shape : Option Shape) → (access.func == codes.accfunc.erasing) ≡ false → AllFiles scene.files → IfSome shape (λ s. IsTrue (is_shape s)) → Opens (access_file own_b scene access shape)
+  accesses access shape opens_only all good =
       let found = index_by own_b.names access.name scene.files in
-      by_func (access.func == codes.accfunc.opening) (access.func == codes.accfunc.creating) access.name access.fac found shape
+      by_func (access.func == codes.accfunc.opening) (access.func == codes.accfunc.creating) (own_b.full && access.func == codes.accfunc.erasing)
+      (never own_b.full (access.func == codes.accfunc.erasing) opens_only) access.name access.fac found (index_to_erase own_b.names access.name scene.files) shape
       (opens own_a own_b scene limit_a h access.fac found (shape-there scene.files found all (index-within own_b.names access.name scene.files)))
       (creates own_a own_b scene limit_a h access.name access.fac found shape good)
 
@@ -229,11 +236,11 @@ module _ (own_a : Configuration) (own_b : ServerSetup) (a : IsBufsiz own_a.bufsi
   -- requests of more messages
   open_first : (name : List ℕ) (fac : ℕ) → AreLimits own_a own_b limit limit_a → First Ready at.Ready (request.OpenFile name fac)
   open_first name fac h = at_head Ready at.Ready None (request.OpenFile name fac) [] _ _
-      (record { added = []; adds = refl; leads = inr (access_due (record { none = refl; access = _; all = refl; whole = refl; hears = λ l. refl; is_ready = refl; was = refl; limits = h })) })
+      (record { added = []; adds = refl; leads = inr (access_due (record { none = refl; access = _; all = refl; whole = refl; hears = λ l. refl; opens = refl; is_ready = refl; was = refl; limits = h })) })
 
   create_first : (name : List ℕ) (org rfm mrs mrn fac : ℕ) → AreLimits own_a own_b limit limit_a → First Ready at.Ready (request.Create name org rfm mrs mrn fac)
   create_first name org rfm mrs mrn fac h = at_head Ready at.Ready None (request.Create name org rfm mrs mrn fac) [] _ _
-      (record { added = []; adds = refl; leads = inr (access_due (record { none = refl; access = _; all = refl; whole = refl; hears = λ l. refl; is_ready = refl; was = refl; limits = h })) })
+      (record { added = []; adds = refl; leads = inr (access_due (record { none = refl; access = _; all = refl; whole = refl; hears = λ l. refl; opens = refl; is_ready = refl; was = refl; limits = h })) })
 
   put_first : (o : OpenFile) (s : StreamVal) (key : Option ℕ) (body : List ℕ) → AreLimits own_a own_b limit limit_a → First Connected (at.Connected o s) (request.Put key body)
   put_first o s None body h = at_head Connected (at.Connected o s) None (request.Put None body) [] _ _
@@ -309,13 +316,13 @@ module _ (own_a : Configuration) (own_b : ServerSetup) (a : IsBufsiz own_a.bufsi
 
   -- ---- The second message of an opening, locked or not.
 
-  access_second : (r : Request) (access : AccessFields) → ((l : List Item) → hear r l ≡ hear_attributes l) → AreLimits own_a own_b limit limit_a → (locked : Bool) → Stepped Ready r [] [] (by_lock own_b (cut at.Ready None) (Whole (Access access)) locked)
-  access_second r access hears h true = record { added = bare_status file_locked ∷ []; adds = refl; leads = inl (record { last = refl; whole = refl; done = report.Refused 0x4030 0; heard = hears (Whole (bare_status file_locked) ∷ []); agree = h }) }
-  access_second r access hears h false =
+  access_second : (r : Request) (access : AccessFields) → ((l : List Item) → hear r l ≡ hear_attributes l) → (access.func == codes.accfunc.erasing) ≡ false → AreLimits own_a own_b limit limit_a → (locked : Bool) → Stepped Ready r [] [] (by_lock own_b (cut at.Ready None) (Whole (Access access)) locked)
+  access_second r access hears opens_only h true = record { added = bare_status file_locked ∷ []; adds = refl; leads = inl (record { last = refl; whole = refl; done = report.Refused 0x4030 0; heard = hears (Whole (bare_status file_locked) ∷ []); agree = h }) }
+  access_second r access hears opens_only h false =
       let scene : Scene = record { limit = limit; files = files } in
       let shape = asked_shape (kept_attributes past) in
       let e = told own_b (access_file own_b scene access shape) in
-      let c = accesses own_a own_b scene limit_a h access shape all (good-shape (kept_attributes past)) in
+      let c = accesses own_a own_b scene limit_a h access shape opens_only all (good-shape (kept_attributes past)) in
       record { added = e.answers; adds = refl; leads = inl (record { last = refl; whole = refl; done = c.0; heard = hears (map Whole e.answers) ∙ c.1; agree = c.2 }) }
 
   -- ---- The Data message of a change.
@@ -376,7 +383,7 @@ module _ (own_a : Configuration) (own_b : ServerSetup) (a : IsBufsiz own_a.bufsi
       (subst (λ (x : Option Begun). Stepped phase r [] rest (served state x m)) (sym h.whole)
       (subst (λ (x : ServerState). Stepped phase r [] rest (served x None m)) (sym h.is_ready)
       (subst (λ (x : Phase). Stepped x r [] rest (served at.Ready None m)) (sym h.was)
-      (at_head Ready at.Ready None r [] (Access h.access) [] (access_second r h.access h.hears h.limits (is_locked others (asks_to_open own_b files at.Ready (Whole (Access h.access))))) m rest h.all))))
+      (at_head Ready at.Ready None r [] (Access h.access) [] (access_second r h.access h.hears h.opens h.limits (is_locked others (asks_to_open own_b files at.Ready (Whole (Access h.access))))) m rest h.all))))
   steps phase state begun r so_far m rest (data_due h) =
       from_none phase r so_far rest (served state begun m) h.none
       (subst (λ (x : Option Begun). Stepped phase r [] rest (served state x m)) (sym h.begins)

@@ -88,7 +88,7 @@ module _ (own_a : Configuration) (own_b : ServerSetup) where
   awaits-moved removed phase limit_a r state limit begun so_far left (at_start h) =
       at_start (record { none = h.none; all = h.all; whole = ap (option_map (begun_moved_up removed)) h.whole; fits = h.fits; agree = agree-moved removed phase state limit limit_a h.agree })
   awaits-moved removed phase limit_a r state limit begun so_far left (access_due h) =
-      access_due (record { none = h.none; access = h.access; all = h.all; whole = ap (option_map (begun_moved_up removed)) h.whole; hears = h.hears; is_ready = ap (state_moved_up removed) h.is_ready; was = h.was; limits = h.limits })
+      access_due (record { none = h.none; access = h.access; all = h.all; whole = ap (option_map (begun_moved_up removed)) h.whole; hears = h.hears; opens = h.opens; is_ready = ap (state_moved_up removed) h.is_ready; was = h.was; limits = h.limits })
   awaits-moved removed phase limit_a r state limit begun so_far left (data_due h) =
       data_due
       (record {

@@ -22,7 +22,7 @@ use Rattle.dap_accessing.specs.Told.{is_unexpected}
 use Rattle.dap_accessing.specs.declared.fault.ReadFault.{ReadFault}
 use Rattle.dap_accessing.specs.declared.fault.ReadFault.TheVariants as read_fault
 use Rattle.dap_shared.specs.Keeping.{AreOf}
-use Rattle.dap_shared.specs.Nodes.{Begins, Drops, Event, Exchange, FilesAfter, Gives, GivesRecord, Node, Serves, after_event, end_at, exchange_at, exchange_moved_up, exchange_of, exchange_without, is_open, items_on, more_beside, new_exchange, new_node, no_exchange, node_after, open_beside, removed_by, setup_on, setup_with, without_file}
+use Rattle.dap_shared.specs.Nodes.{Begins, Drops, Event, Exchange, FilesAfter, Gives, GivesRecord, Node, Serves, after_event, asked_on, end_at, exchange_at, exchange_moved_up, exchange_of, exchange_without, is_open, items_on, more_beside, new_exchange, new_node, no_exchange, node_after, open_beside, removed_by, setup_on, setup_with, without_file}
 use Rattle.dap_shared.proofs.ForCallers.{all-more, history-shares, new-stays}
 use Rattle.dap_end.specs.Agreement.{IsBufsiz}
 use Rattle.dap_end.specs.Asking.{ReadNone}
@@ -148,7 +148,7 @@ module _ (own : ServerSetup) (links : ℕ) (first : Files) where
       let node = node_at history in
       let c = end_at link node in
       let d = more_beside (setup_on own link node) (open_beside link node.exchanges) c item in
-      let removed = removed_by c d in
+      let removed = removed_by (asked_on own link node item) c d in
       keeps_by j history (Serves link item) (others_serve own links first j link history (item ∷ []) apart).items removed
       (get_or-set_other (map (exchange_moved_up removed) node.exchanges) link j (exchange_of (exchange_at link node).most d) no_exchange apart
       ∙ ap (get_or (map (exchange_moved_up removed) node.exchanges) j) (sym (new-stays removed))
@@ -195,9 +195,10 @@ module _ (own : ServerSetup) (links : ℕ) (first : Files) where
         let there : link < links = (of_after links history (Serves link item ∷ []) o).0 in
         let files = sound history before given in
         let count = (history-shares own first links history before).1 in
-        let n = length-map node.exchanges (exchange_moved_up (removed_by c d)) in
+        let removed = removed_by (asked_on own link node item) c d in
+        let n = length-map node.exchanges (exchange_moved_up removed) in
         let here : exchange_at link (after_event own node (Serves link item)) ≡ exchange_of x.most d =
-        get_or-set_same (map (exchange_moved_up (removed_by c d)) node.exchanges) link (exchange_of x.most d) no_exchange (omega (arith, there, count, n)) in
+        get_or-set_same (map (exchange_moved_up removed) node.exchanges) link (exchange_of x.most d) no_exchange (omega (arith, there, count, n)) in
         let client : IsClient own peer.client.present.identity peer.requests (items_on link history ++ item ∷ []) (exchange_of x.most d) =
         λ fits. follows-served peer.client.present.identity its fits bufsiz node.files files.files others x.most peer.requests (items_on link history) x item back split (h fits) in
         subst (λ (n : Node). IsClient own peer.client.present.identity peer.requests (items_on link now) (exchange_at link n)) (sym (all-more own (new_node own first links) history (Serves link item)))

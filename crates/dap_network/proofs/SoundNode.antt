@@ -17,7 +17,7 @@ use Rattle.dap_accessed.specs.Standing.{Files, ServerState, Fresh, Ready, Opened
 use Rattle.dap_accessed.specs.declared.phase.OpenFile.{OpenFile}
 use Rattle.dap_accessed.specs.declared.setup.ServerSetup.{ServerSetup}
 use Rattle.dap_accessed.proofs.ForCallers.{stored-file, more-sound, all-without, distinct-more, distinct-with, distinct-without, file-there, files-more, files-with, none-passes, none_exact, more-leaves}
-use Rattle.dap_shared.specs.Nodes.{Event, Exchange, Node, Serves, Begins, Drops, Gives, GivesRecord, after_all, after_event, end_at, exchange_at, exchange_moved_up, exchange_of, is_open, more_beside, new_exchange, no_exchange, open_beside, removed_by, setup_on, without_file}
+use Rattle.dap_shared.specs.Nodes.{Event, Exchange, Node, Serves, Begins, Drops, Gives, GivesRecord, after_all, after_event, asked_on, end_at, exchange_at, exchange_moved_up, exchange_of, is_open, more_beside, new_exchange, no_exchange, open_beside, removed_by, setup_on, without_file}
 use Rattle.dap_shared.specs.Sharing.{asks_to_open, file_locked, is_locked, open_in}
 use Rattle.dap_shared.proofs.ForCallers.{IsShared, new-stays, one-new}
 use Rattle.dap_network.specs.GivenFiles.{AreGiven, IsGiven}
@@ -94,9 +94,10 @@ item_sound own node link item s h =
     let d = more_beside its others c item in
     let after : IsSoundThen d = by_lock its c item (end_sound node link s h) (is_locked others (asks_to_open its c.standing.scene.files c.standing.state item)) in
     let new = exchange_of (exchange_at link node).most d in
+    let removed = removed_by (asked_on own link node item) c d in
     record {
       files = after.files;
-      limits = λ j. one-new (map (exchange_moved_up (removed_by c d)) node.exchanges) link j new HasLimit (record { least = after.least; most = after.most }) (some_limit (removed_by c d) node.exchanges j (h.limits j));
+      limits = λ j. one-new (map (exchange_moved_up removed) node.exchanges) link j new HasLimit (record { least = after.least; most = after.most }) (some_limit removed node.exchanges j (h.limits j));
     }
 
 drop_by : (node : Node) (at : ℕ) → IsSoundNode node → (b : Bool) → IsSoundNode (if b then node else without_file at node)

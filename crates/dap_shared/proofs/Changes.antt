@@ -1,7 +1,10 @@
 -- What one item does to the table and to what its link has held.
-use Rattle.std.proofs.Common.{◌≡◌, ℕ, ◌<◌, Bool, true, false, List, [], ◌∷◌, ◌++◌, length, Option, Some, None, Result, Ok, Err, refl, ap, sym, subst, ◌∙◌}
-use Rattle.std.specs.Prelude.{◌+◌, IfSome, if◌then◌else◌, ◌==◌, ◌||◌, not, take_while, drop, option_map}
+use Rattle.std.proofs.Common.{◌≡◌, ℕ, ◌<◌, Bool, true, false, List, [], ◌∷◌, ◌++◌, length, Option, Some, None, Result, Ok, Err, refl, ap, sym, subst, ◌∙◌, arith}
+use Rattle.std.specs.Prelude.{◌+◌, IfSome, if◌then◌else◌, ◌==◌, ◌||◌, ◌&&◌, not, take_while, drop, option_map}
 use Rattle.std.specs.List.{prefix_len, remove}
+use Rattle.std.proofs.lemmas.Bool.Decides.{nat_tests}
+use Rattle.dap_accessed.specs.declared.setup.Names.{Names}
+use Rattle.dap_accessed.specs.declared.setup.Names.TheVariants.{Exact, Folded}
 use Rattle.dap_accessed.specs.declared.setup.ServerSetup.{ServerSetup}
 use Rattle.dap_msg.specs.Codes as codes
 use Rattle.dap_msg.specs.BothEnds.{is_too_small}
@@ -21,11 +24,11 @@ use Rattle.rec_file.specs.Acts.{Operation, StreamVal, outcome_of, act, get_recor
 use Rattle.dap_accessed.specs.declared.phase.OpenFile.{OpenFile}
 use Rattle.dap_accessed.specs.declared.verbs.Verb.{Verb}
 use Rattle.dap_accessed.specs.declared.verbs.Verb.TheVariants as verbs
-use Rattle.dap_accessed.specs.Standing.{Files, index_by, file_at, with_file, the_file, new_file, ServerState, Fresh, Ready, Opened, Connected, Store, Stopped, Group, Standing, Scene, Effect, enters}
+use Rattle.dap_accessed.specs.Standing.{Files, index_by, index_to_erase, file_at, with_file, the_file, new_file, ServerState, Fresh, Ready, Opened, Connected, Store, Stopped, Group, Standing, Scene, Effect, enters}
 use Rattle.dap_accessed.specs.Past.{asked_shape, kept_attributes, is_dropping, ordinal_so_far}
-use Rattle.dap_accessed.specs.Accesses.{make_file, open_file, create_file, access_file, end_stream, complete, refuse_access, rights_to_create, rights_to_open}
-use Rattle.dap_accessed.specs.Replies.{opened_with, reason_of, refused_access}
-use Rattle.dap_accessed.specs.Setup.{lacks}
+use Rattle.dap_accessed.specs.Accesses.{make_file, open_file, create_file, erase_file, access_file, end_stream, complete, refuse_access, rights_to_create, rights_to_erase, rights_to_open}
+use Rattle.dap_accessed.specs.Replies.{erased_with, opened_with, reason_of, refused_access}
+use Rattle.dap_accessed.specs.Setup.{asks_for_one, lacks}
 use Rattle.dap_accessed.specs.Records.{at_number, verb_of, get_pick, got, record_got, effect_of_outcome, Change, Putting, Updating, effect_of_change, fits_limit, stream_without_current}
 use Rattle.dap_accessed.specs.Transfers.{fetch, fetch_ends, continue_fetch, store_one}
 use Rattle.dap_accessed.specs.Effects.{Begun, Turn, Does, BeginsGroup, control_opened, control_connected, turn_in, turn_of, effect_with}
@@ -33,7 +36,7 @@ use Rattle.dap_accessed.specs.Groups.{GroupedItems, after_two}
 use Rattle.dap_accessed.specs.Groups.{next_group, more_after, after_item}
 use Rattle.dap_accessed.proofs.ForCallers.{with-same}
 use Rattle.dap_accessed.proofs.ForCallers.{index-within}
-use Rattle.dap_accessed.specs.Sessions.{there_at, there_if, would_open}
+use Rattle.dap_accessed.specs.Sessions.{erased_at, erased_if, there_at, there_if, would_open}
 use Rattle.dap_shared.specs.Sharing.{open_in, asks_to_open}
 
 abbrev pub may_write : Rights → Bool
@@ -47,6 +50,7 @@ pub data Moved (files : Files) (asks : Option OpenFile) : Option OpenFile → Fi
   opens : (o : OpenFile) → o.at < length files → asks ≡ Some o → Moved files asks None files (Some o)
   makes : (entry : List ℕ × FileVal) (o : OpenFile) → o.at ≡ length files → Moved files asks None (files ++ entry ∷ []) (Some o)
   removes : (o : OpenFile) → o.is_new ≡ true → Moved files asks (Some o) (remove files o.at) None
+  erases : (o : OpenFile) → o.at < length files → may_write o.rights ≡ true → asks ≡ Some o → Moved files asks None (remove files o.at) None
 
 -- a stream has the rights of its Access
 abbrev pub HasRights : ServerState → Type 0
@@ -101,6 +105,19 @@ allowed delete_record rights e = ap (λ b. rights.put || (rights.upd || b)) e �
 
 -- ---- Groups.
 
+-- an Access that erases doesn't open
+not-both : (full : Bool) (func : ℕ) → (full && func == codes.accfunc.erasing) ≡ true → (func == codes.accfunc.opening) ≡ false
+not-both full func e = grind (arith, nat_tests)
+
+-- a name that lets a file be erased gives its index
+erase-within : (names : Names) (name : List ℕ) (files : Files) → IfSome (index_to_erase names name files) (λ n. n < length files)
+erase-within Exact name files = index-within Exact name files
+erase-within Folded name files = by (asks_for_one name)
+  where
+    by : (b : Bool) → IfSome (if b then index_by Folded name files else None) (λ n. n < length files)
+    by true = index-within Folded name files
+    by false = tt
+
 module _ (scene : Scene) (asks : Option OpenFile) where
   pub record Left (held : Option OpenFile) (e : Effect) : Type 0 where
     pub moved : Moved scene.files asks held e.scene.files (open_in e.state)
@@ -134,7 +151,7 @@ module _ (scene : Scene) (asks : Option OpenFile) where
       let found = index_by own.names a.name scene.files in
       record {
         moved = opens (there_at a.fac at) (subst (λ (x : Option ℕ). IfSome x (λ n. n < length scene.files)) p (index-within own.names a.name scene.files))
-            (w ∙ ap (λ (b : Bool). if b then there_if own a.fac found else None) e
+            (w ∙ ap (λ (b : Bool). if b then there_if own a.fac found else (if own.full && a.func == codes.accfunc.erasing then erased_if own (index_to_erase own.names a.name scene.files) else None)) e
             ∙ ap (λ (b : Bool). if b then None else option_map (there_at a.fac) found) l ∙ ap (option_map (there_at a.fac)) p);
         rights = tt;
       }
@@ -151,11 +168,34 @@ module _ (scene : Scene) (asks : Option OpenFile) where
   creating own name fac (Some at) shape = entering Ready _ tt
   creating own name fac None shape = either None (lacks own.most (rights_to_create fac)) _ _ (entering Ready _ tt) (making name fac shape)
 
+  erasing-if : (own : ServerSetup) (at : ℕ) (lack : Bool) → lacks own.most rights_to_erase ≡ lack → at < length scene.files → asks ≡ erased_if own (Some at)
+      → Left None (if lack then refuse_access scene (refused_access (reason_of NotPermitted)) else enters (record scene { files = remove scene.files at }) Ready erased_with)
+  erasing-if own at true l lt w = entering Ready _ tt
+  erasing-if own at false l lt w =
+      record { moved = erases (erased_at at) lt refl (w ∙ ap (λ (b : Bool). if b then None else Some (erased_at at)) l); rights = tt }
+
+  erasing : (own : ServerSetup) (at : Option ℕ) → IfSome at (λ n. n < length scene.files) → asks ≡ erased_if own at → Left None (erase_file own scene at)
+  erasing own None lt w = entering Ready _ tt
+  erasing own (Some at) lt w = erasing-if own at (lacks own.most rights_to_erase) refl lt w
+
+  -- what would be opened by an Access that erases
+  asks-erased : (own : ServerSetup) (a : AccessFields) → (own.full && a.func == codes.accfunc.erasing) ≡ true → asks ≡ would_open own scene.files a
+      → asks ≡ erased_if own (index_to_erase own.names a.name scene.files)
+  asks-erased own a e w =
+      let found = index_to_erase own.names a.name scene.files in
+      let none = not-both own.full a.func e in
+      w ∙ ap (λ (x : Bool). if x then there_if own a.fac (index_by own.names a.name scene.files) else (if own.full && a.func == codes.accfunc.erasing then erased_if own found else None)) none
+      ∙ ap (λ (x : Bool). if x then erased_if own found else None) e
+
   accessing : (own : ServerSetup) (a : AccessFields) (shape : Option Shape) → asks ≡ would_open own scene.files a → Left None (access_file own scene a shape)
   accessing own a shape w =
       let found = index_by own.names a.name scene.files in
+      let erased = index_to_erase own.names a.name scene.files in
       either-is None (a.func == codes.accfunc.opening) _ _ (opening own a found w refl)
-      (either None (a.func == codes.accfunc.creating) _ _ (creating own a.name a.fac found shape) (entering Ready _ tt))
+      (either None (a.func == codes.accfunc.creating) _ _ (creating own a.name a.fac found shape)
+      (either-is None (own.full && a.func == codes.accfunc.erasing) _ _
+      (λ e. erasing own erased (erase-within own.names a.name scene.files) (asks-erased own a e w))
+      (entering Ready _ tt)))
 
   purging : (o : OpenFile) (new : Bool) (answers : List Message) → o.is_new ≡ new → Left (Some o) (enters (record scene { files = if new then remove scene.files o.at else scene.files }) Ready answers)
   purging o true answers e = record { moved = removes o e; rights = tt }

@@ -2,6 +2,7 @@
 use Rattle.std.proofs.Common.{◌≡◌, ◌≢◌, ℕ, zero, suc, ◌<◌, ◌≤◌, Bool, true, false, List, [], ◌∷◌, length, map, Option, Some, None, refl, ap, sym, subst, ◌∙◌, inl, inr, arith, eq-eqb}
 use Rattle.std.specs.Prelude.{IfSome, if◌then◌else◌, ◌==◌, ◌||◌, ◌&&◌, get_or, set, replicate, option_map}
 use Rattle.std.specs.List.{list_any}
+use Rattle.std.specs.Option.{option_or}
 use Rattle.std.proofs.lemmas.Bool.{cases_eq, ne_eqb}
 use Rattle.std.proofs.lemmas.List.{get_or-set_same, get_or-set_other, length-append, length-map, length-set, length-replicate}
 use Rattle.std.proofs.Math.ListN.{get_or-map}
@@ -21,10 +22,10 @@ use Rattle.dap_accessed.specs.Effects.{Begun, Does}
 use Rattle.dap_accessed.specs.Groups.{GroupedItems}
 use Rattle.dap_accessed.specs.Groups.{after_item, next_group}
 use Rattle.dap_shared.specs.Sharing.{open_in, has_alone, are_apart, bars, is_file, is_locked, asks_to_open, file_locked, state_moved_up}
-use Rattle.dap_shared.specs.Nodes.{Exchange, Node, new_exchange, no_exchange, new_node, exchange_at, exchange_of, end_at, before_files, open_on, open_beside, more_beside, begun_moved_up, exchange_moved_up, exchange_without, removed_by, is_open, without_file, with_record_at, setup_on, after_event, after_all, node_after, Event, Serves, Begins, Gives, GivesRecord, Drops}
+use Rattle.dap_shared.specs.Nodes.{Exchange, Node, new_exchange, no_exchange, new_node, exchange_at, exchange_of, end_at, before_files, open_on, open_beside, more_beside, begun_moved_up, exchange_moved_up, exchange_without, removed_by, asked_on, is_open, without_file, with_record_at, setup_on, after_event, after_all, node_after, Event, Serves, Begins, Gives, GivesRecord, Drops}
 use Rattle.dap_shared.proofs.Changes.{closes, HasRights, IsSteady, Goes, one-goes}
 use Rattle.dap_shared.specs.Keeping.{AreOf, AreApart, HoldsStill}
-use Rattle.dap_shared.proofs.Shares.{shifted, Aside, aside, dropped, aside-dropped, two-options, own-within}
+use Rattle.dap_shared.proofs.Shares.{shifted, Aside, aside, dropped, aside-dropped, gone, none-gone, two-options, own-within}
 
 -- the link's stream has the rights of its Access
 abbrev pub IsSteadyExchange : Exchange → Type 0
@@ -128,11 +129,11 @@ module _ (own : ServerSetup) (node : Node) (link : ℕ) (item : Item) (there : l
   abbrev after : Node
   after = after_event own node (Serves link item)
 
-  abbrev removed : Option OpenFile
-  removed = removed_by old new
-
   abbrev asked : Option OpenFile
   asked = asks_to_open its node.files old.standing.state item
+
+  abbrev removed : Option OpenFile
+  removed = removed_by asked old new
 
   abbrev asks : Bool → Option OpenFile
   asks locked = if locked then None else asked
@@ -143,6 +144,12 @@ module _ (own : ServerSetup) (node : Node) (link : ℕ) (item : Item) (there : l
 
   went : Goes old new (asks (is_locked others asked))
   went = by-lock (is_locked others asked)
+
+  -- where a file is locked, nothing is gone
+  same-gone : (locked : Bool) → let d = (if locked then next_group its old.standing item (Does (refuse_access old.standing.scene (bare_status file_locked))) else after_item its old item) in
+      gone node.files d.standing.scene.files (option_or (open_in old.standing.state) (asks locked)) ≡ gone node.files d.standing.scene.files (option_or (open_in old.standing.state) asked)
+  same-gone true = none-gone node.files node.files _ (omega arith) ∙ sym (none-gone node.files node.files _ (omega arith))
+  same-gone false = refl
 
   exchange-own : exchange_at link after ≡ exchange_of most new
   exchange-own = get_or-set_same (map (exchange_moved_up removed) node.exchanges) link (exchange_of most new) no_exchange (omega (arith, there, length-map node.exchanges (exchange_moved_up removed)))
@@ -165,11 +172,12 @@ module _ (own : ServerSetup) (node : Node) (link : ℕ) (item : Item) (there : l
   -- what another link has open
   stays : (j : ℕ) → j ≢ link → (p : OpenFile) → open_on (exchange_at j node) ≡ Some p → Aside node.files after.files (open_in new.standing.state) removed p
   stays j d p is =
-      aside node.files (asks (is_locked others asked)) p
+      subst (λ (r : Option OpenFile). Aside node.files after.files (open_in new.standing.state) r p) (same-gone (is_locked others asked))
+      (aside node.files (asks (is_locked others asked)) p
       (subst (λ (x : Option OpenFile). IfSome x (λ o. o.at < length node.files)) is (h.within j))
       (λ o a. free-by (is_locked others asked) refl j d p o is a)
       (open_in old.standing.state) after.files (open_in new.standing.state) went.moved (h.within link)
-      (subst (AreApart (open_on (exchange_at link node))) is (h.apart link j (λ e. d (sym e))))
+      (subst (AreApart (open_on (exchange_at link node))) is (h.apart link j (λ e. d (sym e)))))
 
   open-other : (j : ℕ) → j ≢ link → open_on (exchange_at j after) ≡ option_map (shifted removed) (open_on (exchange_at j node))
   open-other j d = ap open_on (exchange-other j d) ∙ open-shifted removed (exchange_at j node)
@@ -353,7 +361,8 @@ pub count-item : (own : ServerSetup) (node : Node) (link : ℕ) (item : Item) �
 count-item own node link item =
     let c = end_at link node in
     let d = more_beside (setup_on own link node) (open_beside link node.exchanges) c item in
-    length-set (map (exchange_moved_up (removed_by c d)) node.exchanges) link (exchange_of (exchange_at link node).most d) ∙ length-map node.exchanges (exchange_moved_up (removed_by c d))
+    let r = removed_by (asked_on own link node item) c d in
+    length-set (map (exchange_moved_up r) node.exchanges) link (exchange_of (exchange_at link node).most d) ∙ length-map node.exchanges (exchange_moved_up r)
 
 pub all-share : (own : ServerSetup) (links : ℕ) (node : Node) (events : List Event) → length node.exchanges ≡ links → AreOf links events → IsShared node → IsShared (after_all own node events) × (length (after_all own node events).exchanges ≡ links)
 all-share own links node [] n o h = (h, n)

@@ -14,7 +14,7 @@ use Rattle.dap_accessed.specs.Replies.{bare_status}
 use Rattle.dap_accessed.specs.Groups.{GroupedItems, answers_in, answers_of, after_item}
 use Rattle.dap_accessed.proofs.ForCallers.{answers_after-more}
 use Rattle.dap_shared.specs.Sharing.{asks_to_open, file_locked, is_locked}
-use Rattle.dap_shared.specs.Nodes.{AnswersOn, Event, Exchange, Node, Serves, Begins, Gives, GivesRecord, Drops, added_on, after_all, after_event, answers_beside, end_at, exchange_at, exchange_moved_up, exchange_of, exchange_without, is_open, more_beside, most_on, new_exchange, new_node, no_exchange, node_after, open_beside, removed_by, setup_on, without_file}
+use Rattle.dap_shared.specs.Nodes.{AnswersOn, Event, Exchange, Node, Serves, Begins, Gives, GivesRecord, Drops, added_on, asked_on, after_all, after_event, answers_beside, end_at, exchange_at, exchange_moved_up, exchange_of, exchange_without, is_open, more_beside, most_on, new_exchange, new_node, no_exchange, node_after, open_beside, removed_by, setup_on, without_file}
 use Rattle.dap_shared.proofs.Events.{new-stays, count-item, count-drop}
 use Rattle.dap_shared.proofs.Stepping.{all-more, locked_group}
 
@@ -49,7 +49,7 @@ module _ (own : ServerSetup) (node : Node) (link : ℕ) (item : Item) where
   after = more_beside its others before item
 
   abbrev removed : Option OpenFile
-  removed = removed_by before after
+  removed = removed_by (asked_on own link node item) before after
 
   pub grows : link < length node.exchanges → answers_in (exchange_at link (after_event own node (Serves link item))).past ≡ answers_in (exchange_at link node).past ++ answers_beside its others before item
   grows there =
@@ -78,7 +78,7 @@ most-served : (own : ServerSetup) (node : Node) (link : ℕ) (item : Item) (othe
 most-served own node link item other there =
     let c = end_at link node in
     let d = more_beside (setup_on own link node) (open_beside link node.exchanges) c item in
-    let r = removed_by c d in
+    let r = removed_by (asked_on own link node item) c d in
     let many = length-map node.exchanges (exchange_moved_up r) in
     let moved = map (exchange_moved_up r) node.exchanges in
     let ours = exchange_of (exchange_at link node).most d in

@@ -30,7 +30,7 @@ use Rattle.dap_shared.specs.Shared.{AtFile, RecordNotAdded, SharedDrops, SharedV
 use Rattle.dap_shared.specs.Inner.Beside.{gone_by, session_moved_up}
 use Rattle.dap_shared.specs.Inner.Held.{HasNumber, IsHeld, MovesOn, session_at}
 use Rattle.dap_shared.proofs.Events.{history-shares}
-use Rattle.dap_shared.proofs.Stepping.{begins-shared, drops-shared, given-shared, new-shared, one-fresh, open-kept, serves-shared, short-answers}
+use Rattle.dap_shared.proofs.Stepping.{asked_by, begins-shared, drops-shared, given-shared, new-shared, one-fresh, open-kept, serves-shared, short-answers}
 
 is-open : (files : Files) (phase : Phase) → IfSome (open_at phase) (λ o. o.at < length files) → HasNumber phase → IsOpenIn files phase
 is-open files phases.Fresh h n = tt
@@ -133,7 +133,7 @@ on-held v link item files sessions answers h lt m =
       events = h.events ++ Serves link item ∷ [];
       after = (on-shared v link item files sessions answers h lt m).stands h.first h.events h.after;
       numbers = λ i. subst (λ (l : List SessionValue). HasNumber (session_at v.setup i l).phase) (sym m.back)
-          (numbers-then v.setup v.sessions link (gone_by v.files files (session_at v.setup link v.sessions).phase) m.others m.session lt m.moves.moved (has-number files m.session.phase m.moves.there) h.numbers i);
+          (numbers-then v.setup v.sessions link (gone_by (asked_by (session_at v.setup link v.sessions) v.files item) v.files files (session_at v.setup link v.sessions).phase) m.others m.session lt m.moves.moved (has-number files m.session.phase m.moves.there) h.numbers i);
     }
 
 pub served-held : (v : SharedValue) (link : ℕ) (item : Item) (files : Files) (sessions : List SessionValue) (r : Result Served NoMemory) → IsHeld v → link < length v.sessions
@@ -250,7 +250,7 @@ served-many own link item files files' sessions sessions' (Ok served) ok err =
     ap (λ (l : List SessionValue). length l) ok.back
     ∙ length-set ok.others link ok.session
     ∙ ap (λ (l : List SessionValue). length l) ok.moves.moved
-    ∙ length-map (set sessions link (no_session own)) (session_moved_up (gone_by files files' (session_at own link sessions).phase))
+    ∙ length-map (set sessions link (no_session own)) (session_moved_up (gone_by (asked_by (session_at own link sessions) files item) files files' (session_at own link sessions).phase))
     ∙ length-set sessions link (no_session own)
 served-many own link item files files' sessions sessions' (Err f) ok err = ap (λ (l : List SessionValue). length l) err.1
 

@@ -14,7 +14,7 @@ use Rattle.dap_accessed.specs.Groups.{GroupedItems, stands_after}
 use Rattle.dap_accessed.specs.Groups.{after_item, next_group}
 use Rattle.dap_accessed.proofs.ForCallers.{cut-more}
 use Rattle.dap_shared.specs.Sharing.{is_locked, asks_to_open, file_locked}
-use Rattle.dap_shared.specs.Nodes.{Node, Serves, Begins, exchange_of, after_all, after_event, after_more, more_beside, node_after, setup_with}
+use Rattle.dap_shared.specs.Nodes.{Node, Serves, Begins, exchange_of, after_all, after_event, after_more, asked_on, more_beside, node_after, setup_with}
 
 -- where no other link has a file open, none is locked
 none-locked : (asked : Option OpenFile) → is_locked (None ∷ []) asked ≡ false
@@ -35,7 +35,7 @@ module _ (own : ServerSetup) (most : Rights) where
       (none-locked (asks_to_open its s.scene.files s.state item))
 
   one-served : (c : GroupedItems) (item : Item) → after_event own (node_of c) (Serves 0 item) ≡ node_of (after_item its c item)
-  one-served c item = ap (λ (d : GroupedItems). after_more most 0 c d (exchange_of most c ∷ [])) (alone c item)
+  one-served c item = ap (λ (d : GroupedItems). after_more most 0 (asked_on own 0 (node_of c) item) c d (exchange_of most c ∷ [])) (alone c item)
 
   pub served-on : (first : Files) (before more : List Item) →
       after_all own (node_of (stands_after its first before)) (map (Serves 0) more) ≡ node_of (stands_after its first (before ++ more))

@@ -3,6 +3,7 @@
 use Rattle.std.proofs.Common.{◌≡◌, ◌≢◌, ℕ, suc, ◌+◌, ◌-◌, ◌<◌, ◌≤◌, Bool, true, false, [], ◌∷◌, ◌++◌, length, Option, Some, None, refl, ap, sym, subst, ◌∙◌, inl, inr, arith, eq-eqb}
 use Rattle.std.specs.Prelude.{IfSome, if◌then◌else◌, ◌==◌, ◌||◌, ◌&&◌, drop, nat_lt, option_map}
 use Rattle.std.specs.List.{remove}
+use Rattle.std.specs.Option.{option_or}
 use Rattle.std.proofs.lemmas.Bool.{cases_lt, cases_eq, lt-ltb, le-ltb, ne_eqb}
 use Rattle.std.proofs.lemmas.List.{append-nil, drop_all, get_or-set_other, get_or_append_left, length-append, take_all}
 use Rattle.std.proofs.lemmas.List.Edits.{length-remove, get_or-remove_below, get_or-remove_above}
@@ -13,7 +14,7 @@ use Rattle.dap_accessed.proofs.ForCallers.{length-with}
 use Rattle.dap_accessed.specs.Sessions.{moved_up}
 use Rattle.dap_shared.specs.Sharing.{has_alone, are_apart}
 use Rattle.dap_shared.specs.Keeping.{AreApart, entry_at}
-use Rattle.dap_shared.proofs.Changes.{may_write, Moved, keeps, closes, writes, opens, makes, removes}
+use Rattle.dap_shared.proofs.Changes.{may_write, Moved, keeps, closes, writes, opens, makes, removes, erases}
 
 -- ---- Two that are open.
 
@@ -77,7 +78,7 @@ still-apart r one two a b e =
 abbrev pub gone : (before after : Files) → Option OpenFile → Option OpenFile
 gone before after held = if nat_lt (length after) (length before) then held else None
 
-none-gone : (before after : Files) (held : Option OpenFile) → length before ≤ length after → gone before after held ≡ None
+pub none-gone : (before after : Files) (held : Option OpenFile) → length before ≤ length after → gone before after held ≡ None
 none-gone before after held le = ap (λ b. if b then held else None) (le-ltb (length after) (length before) le)
 
 index-of : (o r : OpenFile) → Some o ≡ Some r → o.at ≡ r.at
@@ -90,39 +91,11 @@ pub record Aside (before after : Files) (held removed : Option OpenFile) (p : Op
   pub elsewhere : (r : OpenFile) → removed ≡ Some r → p.at ≢ r.at
 
 module _ (before : Files) (asks : Option OpenFile) (p : OpenFile) (there : p.at < length before) (free : (o : OpenFile) → asks ≡ Some o → are_apart o p ≡ false) where
-  pub aside : (held : Option OpenFile) (after : Files) (new : Option OpenFile) → Moved before asks held after new → IfSome held (λ o. o.at < length before) → AreApart held (Some p)
-      → Aside before after new (gone before after held) p
-  aside held _ _ (keeps _) w a =
-      subst (λ (r : Option OpenFile). Aside before before held r p) (sym (none-gone before before held (omega arith))) (record { within = there; same = refl; apart = a; elsewhere = λ r e. cc })
-  aside held _ _ (closes _) w a =
-      subst (λ (r : Option OpenFile). Aside before before None r p) (sym (none-gone before before held (omega arith))) (record { within = there; same = refl; apart = tt; elsewhere = λ r e. cc })
-  aside (Some o) _ _ (writes _ file may) w a =
-      let d = differ o p (alone-writes o may) a in
-      let n = length-with before o.at file in
-      subst (λ (r : Option OpenFile). Aside before (with_file o.at file before) (Some o) r p) (sym (none-gone before (with_file o.at file before) (Some o) (omega (arith, n))))
-      (record {
-        within = omega (arith, n, there);
-        same = get_or-set_other before o.at p.at (name_at o.at before, file) ([], new_file plain_shape) (λ e. d (sym e));
-        apart = a;
-        elsewhere = λ r e. cc;
-      })
-  aside None _ _ (opens o lt asked) w a =
-      subst (λ (r : Option OpenFile). Aside before before (Some o) r p) (sym (none-gone before before None (omega arith))) (record { within = there; same = refl; apart = free o asked; elsewhere = λ r e. cc })
-  aside None _ _ (makes entry o at) w a =
-      let n = length-append before (entry ∷ []) in
-      subst (λ (r : Option OpenFile). Aside before (before ++ entry ∷ []) (Some o) r p) (sym (none-gone before (before ++ entry ∷ []) None (omega (arith, n))))
-      (record {
-        within = omega (arith, n, there);
-        same = get_or_append_left before (entry ∷ []) ([], new_file plain_shape) p.at there;
-        apart = apart-by o p (λ e. absurd (omega (arith, e, at, there)));
-        elsewhere = λ r e. cc;
-      })
-  aside (Some o) _ _ (removes _ new) w a =
-      let d = differ o p (ap (λ b. b || may_write o.rights) new) a in
+  -- the file at another index is removed
+  without : (o : OpenFile) → o.at < length before → o.at ≢ p.at → Aside before (remove before o.at) None (Some o) p
+  without o w d =
       let n = length-remove before o.at w in
-      subst (λ (r : Option OpenFile). Aside before (remove before o.at) None r p)
-      (sym (ap (λ b. if b then Some o else None) (lt-ltb (length (remove before o.at)) (length before) (omega (arith, n)))))
-      (elim (cases_lt o.at p.at) [
+      elim (cases_lt o.at p.at) [
         | inl up ↦
             let at = above-at o.at p up in
             record {
@@ -142,7 +115,47 @@ module _ (before : Files) (asks : Option OpenFile) (p : OpenFile) (there : p.at 
               apart = tt;
               elsewhere = λ r e same. d (index-of o r e ∙ sym same);
             }
-      ])
+      ]
+
+  is-gone : (o : OpenFile) → o.at < length before → gone before (remove before o.at) (Some o) ≡ Some o
+  is-gone o w =
+      let n = length-remove before o.at w in
+      ap (λ b. if b then Some o else None) (lt-ltb (length (remove before o.at)) (length before) (omega (arith, n)))
+
+  pub aside : (held : Option OpenFile) (after : Files) (new : Option OpenFile) → Moved before asks held after new → IfSome held (λ o. o.at < length before) → AreApart held (Some p)
+      → Aside before after new (gone before after (option_or held asks)) p
+  aside held _ _ (keeps _) w a =
+      subst (λ (r : Option OpenFile). Aside before before held r p) (sym (none-gone before before (option_or held asks) (omega arith))) (record { within = there; same = refl; apart = a; elsewhere = λ r e. cc })
+  aside held _ _ (closes _) w a =
+      subst (λ (r : Option OpenFile). Aside before before None r p) (sym (none-gone before before (option_or held asks) (omega arith))) (record { within = there; same = refl; apart = tt; elsewhere = λ r e. cc })
+  aside (Some o) _ _ (writes _ file may) w a =
+      let d = differ o p (alone-writes o may) a in
+      let n = length-with before o.at file in
+      subst (λ (r : Option OpenFile). Aside before (with_file o.at file before) (Some o) r p) (sym (none-gone before (with_file o.at file before) (Some o) (omega (arith, n))))
+      (record {
+        within = omega (arith, n, there);
+        same = get_or-set_other before o.at p.at (name_at o.at before, file) ([], new_file plain_shape) (λ e. d (sym e));
+        apart = a;
+        elsewhere = λ r e. cc;
+      })
+  aside None _ _ (opens o lt asked) w a =
+      subst (λ (r : Option OpenFile). Aside before before (Some o) r p) (sym (none-gone before before asks (omega arith))) (record { within = there; same = refl; apart = free o asked; elsewhere = λ r e. cc })
+  aside None _ _ (makes entry o at) w a =
+      let n = length-append before (entry ∷ []) in
+      subst (λ (r : Option OpenFile). Aside before (before ++ entry ∷ []) (Some o) r p) (sym (none-gone before (before ++ entry ∷ []) asks (omega (arith, n))))
+      (record {
+        within = omega (arith, n, there);
+        same = get_or_append_left before (entry ∷ []) ([], new_file plain_shape) p.at there;
+        apart = apart-by o p (λ e. absurd (omega (arith, e, at, there)));
+        elsewhere = λ r e. cc;
+      })
+  aside (Some o) _ _ (removes _ new) w a =
+      subst (λ (r : Option OpenFile). Aside before (remove before o.at) None r p) (sym (is-gone o w))
+      (without o w (differ o p (ap (λ b. b || may_write o.rights) new) a))
+  aside None _ _ (erases o lt may asked) w a =
+      subst (λ (r : Option OpenFile). Aside before (remove before o.at) None r p)
+      (sym (ap (gone before (remove before o.at)) asked ∙ is-gone o lt))
+      (without o lt (differ o p (alone-writes o may) (free o asked)))
 
 -- ---- A file that is dropped, as if a link that made it had removed it.
 
@@ -191,3 +204,4 @@ own-within before asks (Some o) _ _ (writes _ file may) w = omega (arith, w, len
 own-within before asks None _ _ (opens o lt asked) w = lt
 own-within before asks None _ _ (makes entry o at) w = omega (arith, at, length-append before (entry ∷ []))
 own-within before asks (Some o) _ _ (removes _ new) w = tt
+own-within before asks None _ _ (erases o lt may asked) w = tt

@@ -2,6 +2,7 @@
 use Rattle.std.proofs.Common.{ne_eqb, ◌≢◌, ◌≡◌, ℕ, zero, suc, ◌<◌, ◌≤◌, Bool, true, false, List, [], ◌∷◌, ◌++◌, length, map, Option, Some, None, refl, ap, sym, subst, ◌∙◌, arith}
 use Rattle.std.specs.Prelude.{IfSome, nat_lt, if◌then◌else◌, not, ◌==◌, ◌&&◌, ◌||◌, get_or, set, option_map, replicate}
 use Rattle.std.specs.List.{list_any, remove}
+use Rattle.std.specs.Option.{option_or}
 use Rattle.std.specs.Global.{Vec}
 use Rattle.std.proofs.lemmas.Bool.{le-ltb}
 use Rattle.std.proofs.lemmas.List.{get_or-set_same, map-set, length-map, length-replicate, length-set}
@@ -320,11 +321,13 @@ module _ (own : ServerSetup) (node : Node) (link : ℕ) (item : Item) (h : IsSha
   item-moves files rest s answers moves =
       let left = leaves files s answers moves.does in
       let d = after in
-      let r = removed_by before d in
-      let g = gone_by node.files files session.phase in
+      let r = removed_by asked before d in
+      let asks = asked_by session node.files item in
+      let g = gone_by asks node.files files session.phase in
       let same : r ≡ g =
-      ap (λ (x : Option OpenFile). if nat_lt (length d.standing.scene.files) (length node.files) then x else None) (sym (phase-open before.standing before.begun (h.steady link).begun))
-      ∙ ap (λ (l : Files). gone_by node.files l session.phase) (sym left.same_files) in
+      ap (λ (x : Option OpenFile). if nat_lt (length d.standing.scene.files) (length node.files) then option_or x asked else None) (sym (phase-open before.standing before.begun (h.steady link).begun))
+      ∙ ap (λ (x : Option OpenFile). gone_by x node.files d.standing.scene.files session.phase) (sym (phase-asks its node.files before.standing before.begun item (h.steady link).begun))
+      ∙ ap (λ (l : Files). gone_by asks node.files l session.phase) (sym left.same_files) in
       ap (value d.standing.scene.files)
       (map-set (session_of_exchange own d.standing.scene.files) (map (exchange_moved_up r) node.exchanges) link (exchange_of most d)
       ∙ ap (λ (l : List SessionValue). set l link (session_of (present_of its d))) (exchanges-moved own node.files d.standing.scene.files r node.exchanges)
@@ -368,7 +371,7 @@ module _ (old : SharedValue) (link : ℕ) (item : Item) (files : Files) (rest : 
   same-links : length (set rest link s) ≡ length old.sessions
   same-links =
       length-set rest link s ∙ ap (λ (l : List SessionValue). length l) moves.moved
-      ∙ length-map (set old.sessions link (no_session old.setup)) (session_moved_up (gone_by old.files files (session_at old.setup link old.sessions).phase))
+      ∙ length-map (set old.sessions link (no_session old.setup)) (session_moved_up (gone_by (asked_by (session_at old.setup link old.sessions) old.files item) old.files files (session_at old.setup link old.sessions).phase))
       ∙ length-set old.sessions link (no_session old.setup)
 
   module _ (first : Files) (events : List Event) (h : SharedAfter first events old) where
@@ -427,9 +430,9 @@ all-same : (l : List SessionValue) → l ≡ map (session_moved_up None) l
 all-same [] = refl
 all-same (s ∷ l) = ap (λ (k : List SessionValue). s ∷ k) (all-same l)
 
-pub unmoved : (files : Files) (phase : Phase) (others : List SessionValue) → others ≡ map (session_moved_up (gone_by files files phase)) others
-unmoved files phase others =
-    all-same others ∙ ap (λ (b : Bool). map (session_moved_up (if b then open_at phase else None)) others) (sym (le-ltb (length files) (length files) (omega arith)))
+pub unmoved : (asked : Option OpenFile) (files : Files) (phase : Phase) (others : List SessionValue) → others ≡ map (session_moved_up (gone_by asked files files phase)) others
+unmoved asked files phase others =
+    all-same others ∙ ap (λ (b : Bool). map (session_moved_up (if b then option_or (open_at phase) asked else None)) others) (sym (le-ltb (length files) (length files) (omega arith)))
 
 -- ---- A link begins, and files are given.
 

@@ -3,6 +3,7 @@
 -- an Access to a file that is locked is refused.
 use Rattle.std.specs.Prelude.{◌≡◌, ℕ, Bool, true, not, ◌&&◌, ◌==◌, nat_lt, if◌then◌else◌, List, [], ◌∷◌, ◌++◌, length, map, replicate, get_or, set, Option, Some, None, option_map}
 use Rattle.std.specs.List.{list_any, remove}
+use Rattle.std.specs.Option.{option_or}
 use Rattle.dap_accessed.specs.declared.setup.ServerSetup.{ServerSetup}
 use Rattle.dap_msg.specs.BothEnds.{min_buffer}
 use Rattle.dap_msg.specs.declared.message.Message.{Message}
@@ -112,14 +113,14 @@ abbrev pub exchange_moved_up : Option OpenFile → Exchange → Exchange
 exchange_moved_up None exchange = exchange
 exchange_moved_up (Some removed) exchange = exchange_without removed.at exchange
 
--- the file that an item removed: its link had it open
-abbrev pub removed_by : (before after : GroupedItems) → Option OpenFile
-removed_by before after =
-    if nat_lt (length after.standing.scene.files) (length before.standing.scene.files) then open_in before.standing.state else None
+-- the file that an item removed: its link had it open, or asked for it
+abbrev pub removed_by : (asked : Option OpenFile) → (before after : GroupedItems) → Option OpenFile
+removed_by asked before after =
+    if nat_lt (length after.standing.scene.files) (length before.standing.scene.files) then option_or (open_in before.standing.state) asked else None
 
 -- ---- Which link locks a file.
 
--- what an item asks to open on a link
+-- what an item asks to open on a link, or to erase
 abbrev pub asked_on : (own : ServerSetup) → (link : ℕ) → Node → Item → Option OpenFile
 asked_on own link node item = asks_to_open (setup_on own link node) node.files (exchange_at link node).state item
 
@@ -157,19 +158,20 @@ pub data Event : Type 0 where
   GivesRecord : (at number : ℕ) → (body : List ℕ) → Event
   Drops : (at : ℕ) → Event
 
--- after an item of this link, with these rights: it is in this state, the others in the one that they had
-abbrev pub after_more : (most : Rights) → (link : ℕ) → (before after : GroupedItems) → List Exchange → Node
-after_more most link before after exchanges =
+-- after an item of this link, with these rights, that asked for this: it is in this state, the others in the one that
+-- they had
+abbrev pub after_more : (most : Rights) → (link : ℕ) → (asked : Option OpenFile) → (before after : GroupedItems) → List Exchange → Node
+after_more most link asked before after exchanges =
     record {
       files = after.standing.scene.files;
-      exchanges = set (map (exchange_moved_up (removed_by before after)) exchanges) link (exchange_of most after);
+      exchanges = set (map (exchange_moved_up (removed_by asked before after)) exchanges) link (exchange_of most after);
     }
 
 -- after one event
 abbrev pub after_event : (own : ServerSetup) → Node → Event → Node
 after_event own node (Serves link item) =
     let c = end_at link node in
-    after_more (exchange_at link node).most link c (more_beside (setup_on own link node) (open_beside link node.exchanges) c item) node.exchanges
+    after_more (exchange_at link node).most link (asked_on own link node item) c (more_beside (setup_on own link node) (open_beside link node.exchanges) c item) node.exchanges
 after_event own node (Begins link most) = record node { exchanges = set node.exchanges link (new_exchange most) }
 after_event own node (Gives name shape) = record node { files = with_new_file name shape node.files }
 after_event own node (GivesRecord at number body) = record node { files = with_record_at at number body node.files }

@@ -37,7 +37,7 @@ abbrev pub is_file : (at : ℕ) → Option OpenFile → Bool
 is_file at None = false
 is_file at (Some opened) = opened.at == at
 
--- what an item asks to open: only an Access in Ready does
+-- what an item asks to open, or to erase: only an Access in Ready does
 abbrev pub asks_to_open : (own : ServerSetup) → Files → ServerState → Item → Option OpenFile
 asks_to_open own files Ready (Whole (Access access)) = would_open own files access
 asks_to_open own files state item = None

@@ -1,6 +1,7 @@
 //! One table of files, and what is kept of each link before it.
 
 ghost use Rattle.std.specs.Prelude.{◌≡◌, ◌≤◌, ◌<◌, ◌∷◌, ◌++◌, ℕ, List, [], length, map, nat_lt, if◌then◌else◌, IfOk, IfErr, IsOk, IsTrue, OnOk, OnErr, Some, None, replicate};
+ghost use Rattle.std.specs.Option.{option_or};
 ghost use Rattle.dap_msg.specs.BothEnds.{min_buffer};
 ghost use Rattle.dap_msg.specs.Decoding.{IsSpelled};
 ghost use Rattle.dap_msg.specs.declared.items.Item.TheVariants.{Whole};
@@ -88,11 +89,16 @@ fn close_up(sessions: &mut [Session], gone: Option<OpenFile>)
     }
 }
 
-/// Returns the file that was open where it is gone: there are fewer files.
-fn gone(before: usize, after: usize, held: Option<OpenFile>) -> Option<OpenFile>
-    ensures { result ≡ (if nat_lt after before then held else None) }
+/// Returns the file that was open, or else asked for, where it is gone: there are fewer files.
+fn gone(
+    before: usize,
+    after: usize,
+    held: Option<OpenFile>,
+    asked: Option<OpenFile>,
+) -> Option<OpenFile>
+    ensures { result ≡ (if nat_lt after before then option_or held asked else None) }
 {
-    if after < before { held } else { None }
+    if after < before { held.or(asked) } else { None }
 }
 
 /// Serves an item of a link, beside the sessions of the links before it and after it.
@@ -122,7 +128,7 @@ fn serve_beside(
     let count = files.count();
     let held = session.open_file();
     let served = session.serve_item(files, item, next)?;
-    let gone = gone(count, files.count(), held);
+    let gone = gone(count, files.count(), held, asked);
     close_up(before, gone);
     close_up(after, gone);
     Ok(served)
@@ -229,7 +235,7 @@ impl SharedFiles {
 
     /// Serves what was read already of a link: the message or fault that `item_at` answered, and the offset after it
     /// (DAP 5.6.0, message sequences). An Access to a file that another link has open is refused as locked, where one
-    /// of the two would change the file or has made it.
+    /// of the two would change or erase the file, or has made it.
     ///
     /// The only refusal is [`NoMemory`]. Nothing has changed then, and the same call may be made again. A message that
     /// has no answer and stores no record takes no memory.

@@ -1,3 +1,4 @@
 pub mod Examples
 mod Capitals
 mod FoldLemmas
+mod VersionLemmas

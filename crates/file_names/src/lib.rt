@@ -4,6 +4,8 @@
 
 mod fold;
 mod laws;
+mod versions;
 
 pub use fold::{is_alike, stem};
 pub use laws::folds_find_themselves;
+pub use versions::{MAX_VERSION, Wanted, version_wanted};

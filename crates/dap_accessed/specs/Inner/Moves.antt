@@ -16,10 +16,10 @@ use Rattle.dap_accessed.specs.declared.phase.Phase.{Phase}
 use Rattle.dap_accessed.specs.declared.phase.Phase.TheVariants as phases
 use Rattle.dap_accessed.specs.declared.verbs.Verb.{Verb}
 use Rattle.dap_accessed.specs.declared.verbs.Verb.TheVariants as verbs
-use Rattle.dap_accessed.specs.Standing.{index_by, ServerState, Scene, Effect, enters, Fresh, Ready, Opened, Connected, Store, Stopped}
+use Rattle.dap_accessed.specs.Standing.{index_by, index_to_erase, ServerState, Scene, Effect, enters, Fresh, Ready, Opened, Connected, Store, Stopped}
 use Rattle.dap_msg.specs.BothEnds.{no_attributes}
 use Rattle.dap_accessed.specs.Past.{asked_shape, next_ordinal}
-use Rattle.dap_accessed.specs.Accesses.{refuse_access, open_file, create_file}
+use Rattle.dap_accessed.specs.Accesses.{refuse_access, open_file, create_file, erase_file}
 use Rattle.dap_accessed.specs.Replies.{bare_status, too_large}
 use Rattle.dap_accessed.specs.Records.{verb_of, Putting, Updating, refused_effect, stream_without_current}
 use Rattle.dap_accessed.specs.Transfers.{fetch}
@@ -170,6 +170,9 @@ opens p name fac = accesses p (open_file p.setup (scene_in p) fac (index_by p.se
 
 abbrev pub creates : Present → (name : List ℕ) → (fac : ℕ) → Move
 creates p name fac = accesses p (create_file p.setup (scene_in p) name fac (index_by p.setup.names name p.files) p.kept)
+
+abbrev pub erases : Present → (name : List ℕ) → Move
+erases p name = accesses p (erase_file p.setup (scene_in p) (index_to_erase p.setup.names name p.files))
 
 abbrev pub refusal_move : Present → OpenFile → StreamVal → Refusal → Move
 refusal_move p opened stream refusal = does p (refused_effect (scene_in p) opened stream refusal)

@@ -1,5 +1,5 @@
 -- What an item asks for in a phase.
-use Rattle.std.specs.Prelude.{ℕ, ◌≡◌, ◌<◌, ◌≤◌, ◌==◌, nat_lt, if◌then◌else◌, Bool, true, false, [], ◌∷◌, length, IfSome, IsTrue, Result, Ok, Err}
+use Rattle.std.specs.Prelude.{ℕ, ◌≡◌, ◌<◌, ◌≤◌, ◌==◌, ◌&&◌, nat_lt, if◌then◌else◌, Bool, true, false, [], ◌∷◌, length, IfSome, IsTrue, Result, Ok, Err}
 use Rattle.dap_msg.specs.BothEnds.{min_buffer}
 use Rattle.dap_msg.specs.Codes as codes
 use Rattle.dap_msg.specs.declared.items.Item.{Item}
@@ -21,7 +21,7 @@ use Rattle.dap_accessed.specs.Records.{Putting, Updating, effect_of_change, get_
 use Rattle.dap_accessed.specs.Transfers.{fetch, store_one}
 use Rattle.dap_accessed.specs.Present.{Present}
 use Rattle.dap_accessed.specs.Inner.Written.{IsShortReply, reply_message}
-use Rattle.dap_accessed.specs.Inner.Moves.{Move, begins_group, creates, does, is_silent, move_in, opens, opens_nothing, scene_in, settles, store_memory}
+use Rattle.dap_accessed.specs.Inner.Moves.{Move, begins_group, creates, does, erases, is_silent, move_in, opens, opens_nothing, scene_in, settles, store_memory}
 use Rattle.dap_accessed.specs.Sessions.{IsOpenIn}
 
 -- one answer, and nothing moves but the phase
@@ -38,6 +38,7 @@ step_move (steps.Keep shape) p = record { present = record p { kept = shape; pha
 step_move (steps.Access func name fac) p =
     if func == codes.accfunc.opening then opens p name.now fac
     else if func == codes.accfunc.creating then creates p name.now fac
+    else if p.setup.full && func == codes.accfunc.erasing then erases p name.now
     else opens_nothing p (bare_status (codes.unsupported_code codes.types.access))
 step_move (steps.Purge opened) p =
     record { present = record p { files = files_after_purge opened p.files; phase = phases.Ready }; answers = complete_response ∷ [] }

@@ -1,6 +1,7 @@
 -- What one link's session does beside those of the others.
 use Rattle.std.specs.Prelude.{ℕ, ◌≡◌, ◌≤◌, Bool, true, false, ◌||◌, nat_lt, if◌then◌else◌, List, [], ◌∷◌, length, map, Option, Some, None}
 use Rattle.std.specs.List.{list_any}
+use Rattle.std.specs.Option.{option_or}
 use Rattle.std.specs.Global.{Vec}
 use Rattle.dap_msg.specs.BothEnds.{max_nsp_message}
 use Rattle.dap_msg.specs.declared.items.Item.{Item}
@@ -24,9 +25,9 @@ abbrev pub session_moved_up : (removed : Option OpenFile) → SessionValue → S
 session_moved_up None s = s
 session_moved_up (Some removed) s = session_without removed.at s
 
--- what was open is gone from the table, if there are fewer files
-abbrev pub gone_by : (before after : Files) → Phase → Option OpenFile
-gone_by before after phase = if nat_lt (length after) (length before) then open_at phase else None
+-- what was open, or asked for, is gone from the table, if there are fewer files
+abbrev pub gone_by : (asked : Option OpenFile) → (before after : Files) → Phase → Option OpenFile
+gone_by asked before after phase = if nat_lt (length after) (length before) then option_or (open_at phase) asked else None
 
 -- refused as the file is locked, or served
 abbrev pub ServesOrRefuses : (locked : Bool) → Item → Files → SessionValue → Files → SessionValue → Vec (Vec ℕ) → Type 0
@@ -49,7 +50,7 @@ IsSilentBetween item files before s after =
 -- one link's session moved beside others, which are moved up where a file was removed
 pub record MovesBeside (item : Item) (files : Files) (others : List SessionValue) (s : SessionValue) (files' : Files) (others' : List SessionValue) (s' : SessionValue) (answers : Vec (Vec ℕ)) : Type 0 where
   pub does : ServesOrRefuses (is_barred others (asked_in s.setup files s.phase item)) item files s files' s' answers
-  pub moved : others' ≡ map (session_moved_up (gone_by files files' s.phase)) others
+  pub moved : others' ≡ map (session_moved_up (gone_by (asked_in s.setup files s.phase item) files files' s.phase)) others
   pub there : IsOpenIn files' s'.phase
 
 -- one link's session moved, beside those of the links before it and of the links after it
@@ -60,6 +61,6 @@ pub record MovesAmong (item : Item) (files : Files) (before : List SessionValue)
       (is_barred before (asked_in s.setup files s.phase item)
       || is_barred after (asked_in s.setup files s.phase item))
       item files s files' s' answers
-  pub first : before' ≡ map (session_moved_up (gone_by files files' s.phase)) before
-  pub rest : after' ≡ map (session_moved_up (gone_by files files' s.phase)) after
+  pub first : before' ≡ map (session_moved_up (gone_by (asked_in s.setup files s.phase item) files files' s.phase)) before
+  pub rest : after' ≡ map (session_moved_up (gone_by (asked_in s.setup files s.phase item) files files' s.phase)) after
   pub there : IsOpenIn files' s'.phase

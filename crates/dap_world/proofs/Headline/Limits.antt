@@ -19,13 +19,13 @@ use Rattle.dap_accessed.specs.Setup.{lacks}
 use Rattle.dap_accessed.specs.declared.phase.OpenFile.{OpenFile}
 use Rattle.dap_accessed.specs.declared.verbs.Verb.{Verb}
 use Rattle.dap_accessed.specs.declared.verbs.Verb.TheVariants as verbs
-use Rattle.std.specs.Prelude.{◌==◌, take_while, drop}
+use Rattle.std.specs.Prelude.{◌==◌, ◌&&◌, take_while, drop}
 use Rattle.std.specs.List.{prefix_len}
 use Rattle.dap_msg.specs.Codes as codes
 use Rattle.dap_accessed.specs.Replies.{bare_status}
-use Rattle.dap_accessed.specs.Standing.{index_by, the_file, ServerState, Fresh, Ready, Opened, Connected, Store, Stopped, Group, Standing, Scene, Effect, enters, start}
+use Rattle.dap_accessed.specs.Standing.{index_by, index_to_erase, the_file, ServerState, Fresh, Ready, Opened, Connected, Store, Stopped, Group, Standing, Scene, Effect, enters, start}
 use Rattle.dap_accessed.specs.Past.{asked_shape, kept_attributes, is_dropping}
-use Rattle.dap_accessed.specs.Accesses.{rights_to_create, rights_to_open, make_file, open_file, create_file, access_file, end_stream, complete}
+use Rattle.dap_accessed.specs.Accesses.{rights_to_create, rights_to_erase, rights_to_open, erase_file, make_file, open_file, create_file, access_file, end_stream, complete}
 use Rattle.dap_accessed.specs.Records.{verb_of, get_pick, got, record_got, Change, Putting, Updating, effect_of_change, fits_limit, at_number}
 use Rattle.dap_accessed.specs.Transfers.{fetch, fetch_ends, continue_fetch}
 use Rattle.dap_msg.specs.BothEnds.{is_too_small}
@@ -61,11 +61,16 @@ module _ (P : ℕ → Type 0) where
     of-create own name fac (Some n) shape = p
     of-create own name fac None shape = of-either (lacks own.most (rights_to_create fac)) _ _ p (of-make name fac shape)
 
+    of-erase : (own : ServerSetup) (at : Option ℕ) → P (erase_file own scene at).scene.limit
+    of-erase own None = p
+    of-erase own (Some n) = of-either (lacks own.most rights_to_erase) _ _ p p
+
     of-access : (own : ServerSetup) (a : AccessFields) (shape : Option Shape) → P (access_file own scene a shape).scene.limit
     of-access own a shape =
         let found = index_by own.names a.name scene.files in
         of-either (a.func == codes.accfunc.opening) _ _ (of-open own a.fac found)
-        (of-either (a.func == codes.accfunc.creating) _ _ (of-create own a.name a.fac found shape) p)
+        (of-either (a.func == codes.accfunc.creating) _ _ (of-create own a.name a.fac found shape)
+        (of-either (own.full && a.func == codes.accfunc.erasing) _ _ (of-erase own (index_to_erase own.names a.name scene.files)) p))
 
     of-end : (o : OpenFile) (state : ServerState) → P (end_stream scene o state).scene.limit
     of-end o Fresh = p

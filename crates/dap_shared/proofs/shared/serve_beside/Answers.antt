@@ -17,7 +17,7 @@ returns-then-is_barred-clause-ok c =
     record {
       does = subst (λ (b : Bool). ServesOrRefuses b c.args.item c.args.files.now c.args.session.now c.args.files.now c.refuse_open.new.self c.in_ok-answers.answers) (sym barred)
           (refl, c.in_ok-answers.ensures.session, c.in_ok-answers.ensures.answer, c.in_ok-answers.ensures.most);
-      first = unmoved c.args.files.now c.args.session.now.phase c.args.before.now;
-      rest = unmoved c.args.files.now c.args.session.now.phase c.args.after.now;
+      first = unmoved asked c.args.files.now c.args.session.now.phase c.args.before.now;
+      rest = unmoved asked c.args.files.now c.args.session.now.phase c.args.after.now;
       there = subst (λ (s : SessionValue). IsOpenIn c.args.files.now s.phase) (sym c.in_ok-answers.ensures.session) tt;
     }
