@@ -1,10 +1,13 @@
 """As much of DAP 5.6.0 as names messages, and says which may change files, and which answer says that a file is closed."""
 
+from decnet.tables import ACCFUNC
+
 ACCESS, CONTROL, COMPLETE = 3, 4, 7
 NAMES = {1: "Configuration", 2: "Attributes", 3: "Access", 4: "Control", 5: "Continue Transfer", 6: "Acknowledge",
          7: "Access Complete", 8: "Data", 9: "Status"}
 HARMLESS = frozenset({1, 2, 5, 6, 9, *range(10, 17)})  # types of messages that change no file
 OPEN = b"\1"  # ACCFUNC of an Access that makes no file
+ERASE = bytes(number for number, word in ACCFUNC.items() if word == "erase")
 READING = frozenset({b"\1", b"\2", b"\6"})  # CTLFUNC: get, connect, rewind
 CLOSE, RESPONSE, END_OF_STREAM = b"\1", b"\2", b"\4"  # CMPFUNC
 STREAM_ID, LENGTH, LONG_LENGTH = 1, 2, 4  # FLAGS
@@ -41,12 +44,22 @@ def named(body):
         return "a message that can't be read"
 
 
+def are_all(test, body):
+    """Whether each message in the bytes of a whole NSP message passes the test; not where one can't be read."""
+    try:
+        return all(test(kind, operand) for kind, operand in messages(body))
+    except Unread:
+        return False
+
+
 def may_change(body):
     """Whether the bytes of a whole NSP message may be a request that changes files."""
-    try:
-        return not all(is_harmless(kind, operand) for kind, operand in messages(body))
-    except Unread:
-        return True
+    return not are_all(is_harmless, body)
+
+
+def may_store(body):
+    """Whether they may be one by which files need more space: each that may change files, but for one that erases a file."""
+    return not are_all(lambda kind, operand: is_harmless(kind, operand) or (kind, operand[:1]) == (ACCESS, ERASE), body)
 
 
 def is_harmless(kind, operand):

@@ -409,18 +409,21 @@ class Link:
                 self.other.acknowledged(number)
             else:
                 self.note_progress(number)
-        if packet.kind in nsp.SEGMENTS and (packet.kind is not Kind.ONLY or dap.may_change(packet.body)):
-            self.note_change(len(packet.body))
+        if packet.kind in nsp.SEGMENTS:
+            self.note_change(packet)
         if self.state is State.RUNNING:
             self.ask_end("> " + packet.whole.hex(), lambda answer: self.do(answer, packet))
 
-    def note_change(self, size):
-        """A segment of this many bytes may change files."""
-        if self.space:
+    def note_change(self, packet):
+        """Takes note of a segment that may change files. One that may need more space than there is closes the link."""
+        is_whole = packet.kind is Kind.ONLY
+        if is_whole and not dap.may_change(packet.body):
+            return
+        if self.space and (not is_whole or dap.may_store(packet.body)):
             if self.space.is_full:
                 self.disconnect(Reason.NO_RESOURCES, "the files have as many bytes as --space allows")
                 return
-            self.space.take(size)
+            self.space.take(len(packet.body))
         if self.keeper:
             self.has_changed = True
             self.keeper.note_change()

@@ -160,6 +160,11 @@ class DapTest(unittest.TestCase):
                     "0202", "020203ff", "0202010007000308")
         for text in changing:
             self.assertTrue(dap.may_change(bytes.fromhex(text)), text)
+            self.assertTrue(dap.may_store(bytes.fromhex(text)), text)
+
+    def test_an_erase_changes_files_and_stores_nothing(self):
+        for text, stores in (("03020804000146000000" + "00", False), ("03020804000146000000" + "00" + "08020041", True), ("03000300014600", True)):
+            self.assertEqual((dap.may_change(bytes.fromhex(text)), dap.may_store(bytes.fromhex(text))), (True, stores), text)
 
     def test_which_answer_says_that_a_file_is_closed(self):
         for text in ("070002", "07020102", "06020007020102"):

@@ -7,6 +7,7 @@ from tests.station import CONFIGURATION, segment
 from tests.support import Case, expect_equal
 
 DATA = b"\x08\0\0A"  # a Data message, which may change a file
+ERASE = b"\x03\0\4\0\1F\0\0\0\0"  # an Access that erases one
 
 
 class CountTest(Case):
@@ -77,6 +78,7 @@ class BridgeTest(UdpCase):
         station.connect(3)
         for number in range(1, 50):
             station.say(segment(station.remote, station.local, number, CONFIGURATION))
-        station.hear_nothing({Kind.DISCONNECT}, "where nothing is stored")
+        station.say(segment(station.remote, station.local, 50, ERASE))
+        station.hear_nothing({Kind.DISCONNECT}, "where nothing is stored, or a file is erased")
         station.disconnect()
         self.stop(child)
