@@ -5,9 +5,10 @@ import random
 import signal
 import time
 
+from decnet.nsp import Kind
 from decnet.users import make_hash
 from tests.datagrams import HASTE, LOOPBACK, UdpCase
-from tests.station import ASKING, SERVING
+from tests.station import ASKING, SERVING, segment
 from tests.support import APART, BRIDGE, PROGRAM, PYTHON, SEED, need_live_end, until
 
 TEXT = b"hello\r\nworld\n\nlast without end"
@@ -316,6 +317,30 @@ class FolderTest(WordsCase):
         self.assertEqual(self.type_in("type", "1.2::a.txt")[0], b"one\n")
         self.assertEqual(self.type_in("type", "1.2::a.txt.put")[0], b"one\ntwo\nlines\n")
         self.stop(server)
+
+    def erase(self, name, rights):
+        """What a server of the folder answers to a node that erases a file by its name, on a link with these rights."""
+        server = self.serve("--folder", self.served, "--users", self.file("users", [f"- - {rights}"]))
+        station = self.station()
+        station.connect(3)
+        station.say_hello()
+        access = bytes([4, 0, len(name)]) + name + bytes(4)
+        station.say(segment(station.remote, station.local, 2, bytes([3, 2, len(access)]) + access))
+        answer = station.hear_kind(Kind.ONLY)
+        while answer.number != 2:
+            answer = station.hear_kind(Kind.ONLY)
+        station.disconnect()
+        station.raw.close()
+        self.stop(server)
+        return answer.body.hex()
+
+    def test_what_a_link_erases_is_removed(self):
+        (self.served / "a.txt").write_text("one\n")
+        (self.served / "b.txt").write_text("two\n")
+        self.assertEqual(self.erase(b"a.txt", "put,get,upd"), "090206554000000102")
+        self.assertEqual(self.texts(), {"a.txt": b"one\n", "b.txt": b"two\n"})
+        self.assertEqual(self.erase(b"a.txt", "del"), "0602000702020200")
+        self.assertEqual(self.texts(), {"b.txt": b"two\n"})
 
     def test_two_names_that_are_one_and_a_long_line_do_not_stop_the_start(self):
         for name, data in (("DATA.TXT", b"one\n"), ("data.txt", b"two\n"), ("long", b"x" * 32_768)):
