@@ -52,6 +52,11 @@ CAPTURE_WORDS = [
 ]
 # what each FILE that can't be opened is, by its name in a folder, and what is told of it
 UNOPENED = [("none", "not found"), ("", "is a folder"), ("wire.pcap/x", "a part of its path is no folder"), ("locked", "not permitted")]
+# a segment of a whole message of an Acknowledge and bytes after it, and its listing
+SEGMENT = b"> 600202010101000600"
+LISTED = "1 > segment only dst=0202 src=0101 seg=1 acks=- len=%d\n  message seg=1..1 len=%d\n  ack\n"
+LONGEST_LINE, LONGEST_PACKET, BEFORE = 16_777_216, 4_096, 7  # bytes of a line, of a packet, and before its message
+FILE_END = b"gap > 1.1 -> 1.2 dst=0202 src=0101 seg=2..4\ngap < 1.2 -> 1.1 dst=0101 src=0202 seg=2..4\n"
 # what has a listing or answers of more than a pipe holds
 PACKETS = b"".join(b"> 60020201010%d80010001020a00040703050600000000\n" % (number % 8) for number in range(2_000))
 HEADER = 24  # bytes before the records of a pcap file
@@ -117,6 +122,21 @@ class Suite:
             is_right = (done.returncode, done.stderr, done.stdout.count(b"\n  message ")) == (0, b"taken 5 passed 2\n", 4)
             self.look("dapcap of a FIFO", is_right, done)
 
+    def lists(self, what, given, is_listed, told):
+        """dapcap lists what is good, tells what is bad, and a line that helps, and ends with 1."""
+        done = subprocess.run([self.programs["dapcap"], "--bare"], input=given, capture_output=True, timeout=SECONDS, check=False)
+        lines = [line for line in done.stderr.decode().splitlines() if not line.startswith("dapcap: ")]
+        self.look(f"dapcap of {what}", done.returncode == 1 and is_listed(done.stdout) and lines == told, done)
+
+    def bounds(self):
+        """What is longer than dapcap takes, and the gaps of a file that ends by a fault."""
+        long = b"> " + b"0" * (LONGEST_LINE - 1) + b"\n"
+        self.lists("a line that is too long", long + SEGMENT + b"\n", lambda text: text.decode() == LISTED % (2, 2), ["bad line 1"])
+        whole, longer = (SEGMENT + b"00" * (size - BEFORE - 2) + b"\n" for size in (LONGEST_PACKET, LONGEST_PACKET + 1))
+        size = LONGEST_PACKET - BEFORE
+        self.lists("a packet that is too long", whole + longer, lambda text: text.decode() == LISTED % (size, size), ["bad line 2"])
+        self.lists("a file that is cut short", WIRE[:520], lambda text: text.endswith(FILE_END), ["bad cut-short at=487", "taken 5 passed 1"])
+
     def pipe(self, name, words, given, reader):
         """A plain shell's pipe to a program that reads little or nothing, where SIGPIPE is looked at and where it isn't."""
         for before in ("", "trap '' PIPE; "):
@@ -169,6 +189,7 @@ def main():
     suite.files()
     suite.words()
     suite.captures()
+    suite.bounds()
     suite.pipes()
     for line in suite.wrong:
         print(f"examples: {line}", file=sys.stderr)

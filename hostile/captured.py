@@ -162,11 +162,12 @@ def with_end(choose, file):
 def altered(count):
     choose, files = random.Random(SEED), list(FILES.values())
     ways = (with_number, with_number, with_bytes, with_bit, with_part, with_end)
-    for _ in range(count):
+    while count:
         file = choose.choice(files)
         for _ in range(choose.choice((1, 1, 1, 2))):
             file = choose.choice(ways)(choose, file) if len(file) > 4 else file
         if not is_lines(file):
+            count -= 1
             yield file
 
 
