@@ -228,7 +228,7 @@ impl<'a> Given<'a> {
         }
     }
 
-    /// Takes the second node, if there is one: it is another than the first one.
+    /// Takes the second node, if there is one; it must differ from the first one.
     fn with_other(self, first: u16, node: Option<u16>) -> Result<Given<'a>, Mistake<'a>>
         ensures { SaysAs result (other_node (said_by self.entry) first node) }
     {
