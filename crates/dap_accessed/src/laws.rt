@@ -1,7 +1,7 @@
 //! Laws over the definitions alone, for the crates above. Each function does nothing: its contract is
 //! the law.
 
-ghost use Rattle.std.specs.Prelude.{◌≡◌, ◌<◌, ◌^◌, ℕ, List, [], ◌∷◌, ◌++◌, length, None, IsTrue};
+ghost use Rattle.std.specs.Prelude.{◌≡◌, ◌<◌, ◌^◌, ℕ, List, [], ◌∷◌, ◌++◌, length, None};
 ghost use Rattle.dap_msg.specs.declared.items.Item.{Item as TheItem};
 ghost use Rattle.dap_msg.specs.declared.message.Message.TheVariants.{Config};
 ghost use Rattle.dap_msg.specs.Fitting.{FieldsFit};
@@ -15,8 +15,8 @@ ghost use Rattle.dap_accessed.specs.Twins.{AreTwins, SameMessages};
 ghost use Rattle.dap_accessed.specs.declared.setup.ServerSetup.{ServerSetup};
 ghost use Rattle.dap_accessed.specs.Standing.{Files, index_of, file_at};
 ghost use Rattle.dap_accessed.specs.Adding.{MayStore, newest, with_new_file, with_record};
-ghost use Rattle.rec_file.specs.Shapes.{is_shape};
-ghost use Rattle.rec_file.specs.declared.shapes.Shape.{Shape};
+ghost use Rattle.dap_accessed.specs.declared.asked.Asked.{Asked};
+ghost use Rattle.dap_accessed.specs.Asked.{IsAsked};
 ghost use Rattle.dap_accessed.specs.Groups.{After, Answers, answers_added, limit_for, stands_after};
 
 /// One more message adds its answers to those of the messages before it, and no others.
@@ -51,9 +51,9 @@ pub fn answers_fit()
 
 /// A file and a record that an end is given leave files that obey their shapes and have different names.
 pub fn given_files_are_sound()
-    ensures file { (files : Files) (name : List ℕ) (shape : Shape) → AreFiles files
-        → IsTrue (is_shape shape) → index_of name files ≡ None
-        → AreFiles (with_new_file name shape files) }
+    ensures file { (files : Files) (name : List ℕ) (asked : Asked) → AreFiles files
+        → IsAsked asked → index_of name files ≡ None
+        → AreFiles (with_new_file name asked files) }
     ensures record { (files : Files) (n : ℕ) (body : List ℕ) → AreFiles files → 0 < length files
         → MayStore (file_at (newest files) files) n body → AreFiles (with_record n body files) }
 {}

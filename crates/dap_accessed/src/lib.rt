@@ -6,6 +6,7 @@
 mod accessed;
 mod adding;
 mod answers;
+mod asked;
 mod fault;
 mod laws;
 mod opened;
@@ -20,6 +21,7 @@ mod transfer;
 mod verbs;
 
 pub use accessed::Accessed;
+pub use asked::Asked;
 pub use fault::{AddFault, NoMemory};
 pub use laws::{
     answers_are_sendable, answers_fit, answers_grow, given_files_are_sound, identity_is_told_alone,

@@ -22,6 +22,7 @@ use Rattle.dap_accessed.specs.declared.setup.Names.{Names}
 use Rattle.dap_accessed.specs.declared.setup.ServerSetup.{ServerSetup}
 use Rattle.dap_accessed.specs.Standing.{Files, file_at, index_by}
 use Rattle.dap_accessed.specs.Adding.{MayStore, with_new_file}
+use Rattle.dap_accessed.specs.Asked.{plainly}
 use Rattle.dap_accessed.specs.Storing.{StoreRefused}
 use Rattle.dap_accessed.specs.Setup.{all_rights}
 use Rattle.dap_shared.specs.declared.fault.RemoveFault.{RemoveFault}
@@ -408,7 +409,7 @@ module _ (old : Node) (name : List ℕ) (shape : Shape) where
       → DoneOr (λ became. became) (GivesFile name shape old one) (FileNotGiven name old) add_refusal (node_without_file old) one said b
       → DoneOr (λ became. became) (GivesFile name shape old two) (FileNotGiven name old) add_refusal (node_without_file old) two more c → Same one two said more b c
   give-file one two said more b c h nb nc (inl x) (inl y) =
-      let t = given-one (with_new_file name shape files) (Gives name shape) old.node one.node two.node h x.0.given y.0.given in (
+      let t = given-one (with_new_file name (plainly shape) files) (Gives name (plainly shape)) old.node one.node two.node h x.0.given y.0.given in (
         x.0.rest ∙ ap (λ (n : NodeValue). record old { node = n; given = one.given }) t.0
             ∙ ap (λ (g : Option (List ℕ)). record old { node = two.node; given = g }) (x.0.named ∙ sym y.0.named) ∙ sym y.0.rest,
         x.1 ∙ sym y.1,

@@ -20,6 +20,7 @@ use Rattle.dap_accessed.specs.declared.fault.AddFault.TheVariants as add
 use Rattle.dap_accessed.specs.declared.setup.Names.{Names}
 use Rattle.dap_accessed.specs.declared.setup.ServerSetup.{ServerSetup}
 use Rattle.dap_accessed.specs.Adding.{MayStore, with_new_file}
+use Rattle.dap_accessed.specs.Asked.{plainly}
 use Rattle.dap_accessed.specs.Setup.{all_rights, same_name}
 use Rattle.dap_accessed.specs.Standing.{Files, file_at, index_by}
 use Rattle.dap_shared.specs.Nodes.{Begins, Event, Gives, GivesRecord, with_record_at}
@@ -254,7 +255,7 @@ pub record GivenTo (made : Files) (event : Event) (old new : NodeValue) : Type 0
 pub record GivesFile (name : List ℕ) (shape : Shape) (old new : Node) : Type 0 where
   pub idle : is_used old ≡ false
   pub first : index_by old.node.noted.shared.setup.names name old.node.noted.shared.files ≡ None
-  pub given : GivenTo (with_new_file name shape old.node.noted.shared.files) (Gives name shape) old.node new.node
+  pub given : GivenTo (with_new_file name (plainly shape) old.node.noted.shared.files) (Gives name (plainly shape)) old.node new.node
   pub named : new.given ≡ Some name
   pub rest : new ≡ record old { node = new.node; given = new.given }
 

@@ -27,7 +27,7 @@ use crate::node_orders::{NodeOrder, read_node_order};
 use crate::orders::{Between, set_up_anew, set_up_beside};
 use crate::sending::{has_message, is_left, push_again, say_ack, waits};
 use crate::used::Used;
-use dap_accessed::{ALL_RIGHTS, AddFault, Names, NoMemory, ServerSetup};
+use dap_accessed::{ALL_RIGHTS, AddFault, Asked, Names, NoMemory, ServerSetup};
 use dap_accessing::Octets;
 use dap_end::{EndFault, ServingNode, TakeFault};
 use dap_msg::codes::{ACCESS_REFUSED, REASON_BAD_ATTRIBUTES};
@@ -579,7 +579,7 @@ fn add_shaped(
         (AddsShapedTo node.old name shape node.new text.new.items) }
     ensures err { OnErr result (node.new ≡ node.old) }
 {
-    match node.node.add(&name.0, shape) {
+    match node.node.add(&name.0, Asked::plainly(shape)) {
         Ok(()) => {
             node.given = Some(name);
             Ok(Became::Done)

@@ -12,6 +12,8 @@ pub use Rattle.dap_msg.proofs.Offsets.{are_items}
 pub use Rattle.dap_msg.proofs.Offsets.{read_in_place}
 -- the answers of both ends have spellings, and all but records have short ones
 pub use Rattle.dap_msg.proofs.Extents.{answers_fit}
+-- the Attributes of a file with what else is kept of it have a short spelling
+pub use Rattle.dap_msg.proofs.Extents.{file_attributes_fit}
 -- a Filedata has a spelling
 pub use Rattle.dap_msg.proofs.Extents.{file_data_fits, unnumbered_fits}
 -- the length of a Filedata's spelling

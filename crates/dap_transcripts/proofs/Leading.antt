@@ -11,6 +11,8 @@ use Rattle.nsp_link.specs.Link.{IsSpelling}
 use Rattle.nsp_link.specs.Sending.{ack_packet_of}
 use Rattle.rec_file.specs.declared.picks.Rights.{Rights}
 use Rattle.rec_file.specs.declared.shapes.Shape.{Shape}
+use Rattle.rec_file.proofs.ForCallers.{plain-look}
+use Rattle.dap_accessed.specs.Asked.{plainly}
 use Rattle.rec_file.specs.Shapes.{checked_shape, format_of_code, is_shape, org_of_code}
 use Rattle.dap_accessed.specs.Setup.{all_rights}
 use Rattle.dap_end.specs.declared.fault.EndFault.{EndFault}
@@ -276,7 +278,7 @@ module _ (net : Network) (old new : Node) (same : net.node ≡ old.node) where
       → MatchOption shape (Says (status_line code why, Done) (node_without_file (before_line old)) new text became)
       (λ s. DoneOr (λ became. became) (GivesFile name s (before_line old) new) (FileNotGiven name (before_line old)) add_refusal (node_without_file (before_line old)) new text became) → Ends text
   file_by None code why name text became good h = still text (subst (λ (t : List ℕ). Speaks t []) (sym h.1) (speaks_status code why)) (ap (λ (n : Node). n.node) h.0)
-  file_by (Some s) code why name text became good (inl h) = one_event (GotFile name s) text h.1 (good, h.0.first, h.0.given.given, h.0.given.ports) refl
+  file_by (Some s) code why name text became good (inl h) = one_event (GotFile name (plainly s)) text h.1 (record { shape = good; look = plain-look s }, h.0.first, h.0.given.given, h.0.given.ports) refl
   file_by (Some s) code why name text became good (inr h) = still text (subst (λ (t : List ℕ). Speaks t []) (sym h.3) (speaks_add h.0)) (ap (λ (n : Node). n.node) h.2)
 
   records : (r : RecordLine) (text : List ℕ) (became : Became) → AddsRecordTo (before_line old) r new text became → Ends text

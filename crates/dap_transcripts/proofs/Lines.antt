@@ -7,6 +7,8 @@ use Rattle.rec_file.specs.declared.shapes.Format.{Format}
 use Rattle.rec_file.specs.declared.shapes.Org.{Org}
 use Rattle.rec_file.specs.declared.shapes.Org.TheVariants.{Seq, Rel}
 use Rattle.rec_file.specs.declared.shapes.Shape.{Shape}
+use Rattle.rec_file.proofs.ForCallers.{plain-look}
+use Rattle.dap_accessed.specs.Asked.{plainly}
 use Rattle.rec_file.specs.declared.picks.Rights.{Rights}
 use Rattle.rec_file.specs.Shapes.{checked_shape, format_of_code, has_length, is_shape, kept_mrn, org_of_code, shape_of}
 use Rattle.rec_file.specs.Limits.{max_record, max_record_number}
@@ -236,7 +238,7 @@ file_by : (o : NodeOrder) (shape : Option Shape) (code why : ℕ) (name : List �
     (λ s. DoneOr (λ became. became) (GivesFile name s old new) (FileNotGiven name old) add_refusal (node_without_file old) new text became) → LineDid o old.node new.node text
 file_by o None code why name old new text became good h = nothing o old.node new.node text (subst (λ (t : List ℕ). Speaks t []) (sym h.1) (speaks_status code why)) (ap (λ (n : Node). n.node) h.0)
 file_by o (Some s) code why name old new text became good (inl h) =
-    one_event o old.node new.node text (GotFile name s) (subst (λ (t : List ℕ). Speaks t []) (sym h.1) speaks_none) (good, h.0.first, h.0.given.given, h.0.given.ports) refl refl
+    one_event o old.node new.node text (GotFile name (plainly s)) (subst (λ (t : List ℕ). Speaks t []) (sym h.1) speaks_none) (record { shape = good; look = plain-look s }, h.0.first, h.0.given.given, h.0.given.ports) refl refl
 file_by o (Some s) code why name old new text became good (inr h) = nothing o old.node new.node text (subst (λ (t : List ℕ). Speaks t []) (sym h.3) (speaks_add h.0)) (ap (λ (n : Node). n.node) h.2)
 
 pub found_within : (names : Names) (name : List ℕ) (files : Files) (at : ℕ) → index_by names name files ≡ Some at → at < length files
