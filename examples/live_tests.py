@@ -18,7 +18,7 @@ import subprocess
 import sys
 from concurrent.futures import ThreadPoolExecutor
 
-from decnet import program
+from decnet import dap, messages, program
 from decnet.lossy import Both, Line
 
 # the programs, as `./daplive` and `./dapnsp` build them
@@ -82,6 +82,35 @@ REQUESTS = {
 }
 
 
+# what a file keeps of Attributes; RFM of records with a fixed part in front; each RFM that may be kept
+FILE_KEEPS = {"datatype", "rfm", "rat", "bls", "bks", "fsz", "bsz"}
+FRONTED, VARYING = 3, (0, 3, 4, 5, 6)
+
+
+def kept_in(word):
+    """The fields of what is kept with a file, by the last word of its line; None where it is no canonical message of that."""
+    if not word.startswith(b"kept=") or not HEX(word[5:]):
+        return None
+    kept = bytes.fromhex(word[5:].decode())
+    try:
+        (kind, operand), = dap.messages(kept)
+        fields = dap.read_attributes(operand)
+    except (dap.Unread, ValueError):
+        return None
+    is_canonical = kind == messages.ATTRIBUTES and messages.attributes(**fields) == kept
+    return fields if is_canonical and fields and fields.keys() <= FILE_KEEPS else None
+
+
+def is_good_file(words):
+    """Whether a line `file` with a last word `kept=HEX` says what such a file may keep."""
+    if not fits(words[:5], SERVE[b"file"]) or len(words) != 6:
+        return False
+    fields = kept_in(words[5])
+    if fields is None or "rfm" in fields and (words[2] != b"variable" or fields["rfm"] not in VARYING):
+        return False
+    return (fields.get("rfm") == FRONTED) == (fields.get("fsz", 0) > 0) and fields.get("fsz") != 0
+
+
 def fits(words, forms):
     return any(len(words) == len(form) and all(is_good(word) for is_good, word in zip(form, words)) for form in forms)
 
@@ -95,7 +124,8 @@ def is_good(role, line):
         if others[:1] == [b"store"]:
             return all(map(TEXT, others[1:]))
         return fits(others[1:], REQUESTS.get(others[0], [])) if others else False
-    return fits(others, (SERVE if role == "serve" else ASK).get(word, []))
+    is_kept = role == "serve" and word == b"file" and is_good_file(others)
+    return is_kept or fits(others, (SERVE if role == "serve" else ASK).get(word, []))
 
 
 # ---- What a line is answered.
@@ -117,6 +147,11 @@ ANSWERS = {
     r"|refused (failed|ask-phase|ask-too-large|ask-failed)\n)",
 }
 ANSWERS = {word: re.compile(pattern) for word, pattern in ANSWERS.items()}
+
+
+def front_of(kept):
+    """The bytes in front of each record that MRS doesn't count, by what is kept with a file, if anything is."""
+    return kept_in(kept[0]).get("fsz", 0) if kept else 0
 
 
 class Model:
@@ -174,9 +209,9 @@ class Model:
         return "packets wait" if is_setup and self.waits else None
 
     def file(self, words, answer):
-        name, org, rfm, mrs, mrn = words[1].lower(), words[2], words[3], int(words[4]), int(words[5])
+        name, org, rfm, mrs, mrn, kept = words[1].lower(), words[2], words[3], int(words[4]), int(words[5]), words[6:]
         wanted, self.given = "", None
-        if mrs > 32_767 or mrn > 2_147_483_647 or rfm == b"fixed" and not mrs:
+        if mrs and mrs + front_of(kept) > 32_767 or mrn > 2_147_483_647 or rfm == b"fixed" and not mrs:
             wanted = "refused 4000 11\n"
         elif self.is_used:
             wanted = "refused busy\n"
@@ -185,7 +220,8 @@ class Model:
         else:
             self.given = name
             self.by_lines.add(name)
-            self.files[name] = ([org, rfm, b"%d" % mrs, b"%d" % (mrn if org == b"rel" else 0)], {})
+            kept = [word.lower() for word in kept]
+            self.files[name] = ([org, rfm, b"%d" % mrs, b"%d" % (mrn if org == b"rel" else 0), *kept], {})
         return None if answer == wanted else f"not {wanted!r}"
 
     def record(self, words, answer):
@@ -197,9 +233,9 @@ class Model:
         elif self.given not in self.files:
             wanted = "refused 4032 0\n"
         else:
-            (org, rfm, mrs, mrn), records = self.files[self.given]
-            limit = int(mrn) or 2_147_483_647
-            if size > 32_767 or rfm == b"fixed" and size != int(mrs) or rfm == b"variable" and 0 < int(mrs) < size:
+            (org, rfm, mrs, mrn, *kept), records = self.files[self.given]
+            limit, longest = int(mrn) or 2_147_483_647, int(mrs) + front_of(kept) if int(mrs) else 32_767
+            if size > longest or rfm == b"fixed" and size != int(mrs):
                 wanted = "refused 5000 7\n"
             elif not 1 <= place <= limit or org == b"seq" and place > max(records, default=0) + 1:
                 wanted = "refused 5000 6\n"
@@ -314,12 +350,28 @@ class Input:
 
     def file(self):
         choice = self.chance.choice
-        return b"file %b %b %b %d %d" % (
-            choice(GIVEN), choice([b"seq", b"rel"]), choice([b"fixed", b"variable"]), choice([0, 3, 3, 20, 32768]),
-            choice([0, 0, 4, 2147483648]))
+        return b"file %b %b %b %d %d%b" % (
+            choice(GIVEN), choice([b"seq", b"rel"]), choice([b"fixed", b"variable"]), choice([0, 3, 3, 20, 32766, 32768]),
+            choice([0, 0, 4, 2147483648]), choice([b"", self.kept()]))
+
+    def kept(self):
+        """What is kept with a file, mostly good: some fields, of which FSZ is there with RFM 3; or altered."""
+        choice, chance = self.chance.choice, self.chance
+        values = {"datatype": [0, 2, 300, 16383], "rfm": [0, 3, 3, 3, 3, 3, 4, 5, 6, 7], "rat": [0, 2, 8, 300, 2097151], "bls": [0, 512, 65535],
+                  "bks": [0, 255], "bsz": [8], "org": [0], "mrs": [3]}
+        names = [name for name in values if chance.random() < {"org": 0.02, "mrs": 0.02, "rfm": 0.6}.get(name, 0.2)]
+        fields = {name: choice(values[name]) for name in names}
+        if fields.get("rfm") == FRONTED or not chance.randrange(30):
+            fields["fsz"] = choice([1, 1, 2, 2, 255, 0])
+        kept = messages.attributes(**fields)
+        if not chance.randrange(8):
+            at = chance.randrange(len(kept))
+            kept = kept[:at] + chance.randbytes(chance.randrange(2)) + kept[at + chance.randrange(2):]
+        word = choice([b" kept=%b"] * 20 + [b" kept= %b", b" keep=%b", b" %b", b" kept=%b "]) % kept.hex().encode()
+        return choice([word, word, word.replace(b"f", b"F")])
 
     def record(self):
-        size = self.chance.choice([0, 3, 3, 20, 21])
+        size = self.chance.choice([0, 3, 3, 4, 20, 21, 22])
         return b"  %d %b" % (self.chance.choice([0, 1, 2, 3, 4, 5]), self.chance.randbytes(size).hex().encode() or b"-")
 
     def given(self):

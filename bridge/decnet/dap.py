@@ -1,13 +1,15 @@
-"""As much of DAP 5.6.0 as names messages, and says which may change files, and which answer says that a file is closed."""
+"""As much of DAP 5.6.0 as names messages, and says which may change files, and which answer says that a file is closed; and the
+fields of an Attributes message."""
 
-from decnet.tables import ACCFUNC
+from decnet import tables
+from decnet.messages import ATTRIBUTES, BITS, MORE
 
 ACCESS, CONTROL, COMPLETE = 3, 4, 7
 NAMES = {1: "Configuration", 2: "Attributes", 3: "Access", 4: "Control", 5: "Continue Transfer", 6: "Acknowledge",
          7: "Access Complete", 8: "Data", 9: "Status"}
 HARMLESS = frozenset({1, 2, 5, 6, 9, *range(10, 17)})  # types of messages that change no file
 OPEN = b"\1"  # ACCFUNC of an Access that makes no file
-ERASE = bytes(number for number, word in ACCFUNC.items() if word == "erase")
+ERASE = bytes(number for number, word in tables.ACCFUNC.items() if word == "erase")
 READING = frozenset({b"\1", b"\2", b"\6"})  # CTLFUNC: get, connect, rewind
 CLOSE, RESPONSE, END_OF_STREAM = b"\1", b"\2", b"\4"  # CMPFUNC
 STREAM_ID, LENGTH, LONG_LENGTH = 1, 2, 4  # FLAGS
@@ -36,6 +38,49 @@ def messages(body):
         at = end
 
 
+def take(data, at, count):
+    """Bytes, and the offset after them."""
+    if at + count > len(data):
+        raise Unread
+    return data[at:at + count], at + count
+
+
+def take_extensible(data, at, most):
+    """The number of an extensible field, and the offset after it."""
+    number = 0
+    for place in range(most):
+        (byte,), at = take(data, at, 1)
+        number |= byte % MORE << BITS * place
+        if byte < MORE:
+            return number, at
+    raise Unread
+
+
+def take_field(data, at, kind, size):
+    """A field, a number or the bytes of an image, and the offset after it."""
+    if kind == "extensible":
+        return take_extensible(data, at, size)
+    if kind == "image":
+        (length,), at = take(data, at, 1)
+        if length > size:
+            raise Unread
+        return take(data, at, length)
+    found, at = take(data, at, size)
+    return int.from_bytes(found, "little"), at
+
+
+def read_attributes(operand):
+    """The fields of an Attributes message by their names. What is after the last one has no meaning."""
+    found = {}
+    menu, at = take_extensible(operand, 0, tables.ATTRIBUTES_MENU) if operand else (0, 0)
+    if menu >> len(tables.ATTRIBUTES):
+        raise Unread
+    for bit, (name, (kind, size)) in enumerate(tables.ATTRIBUTES.items()):
+        if menu >> bit & 1:
+            found[name], at = take_field(operand, at, kind, size)
+    return found
+
+
 def named(body):
     """The messages of an NSP message by their names."""
     try:
@@ -60,6 +105,11 @@ def may_change(body):
 def may_store(body):
     """Whether they may be one by which files need more space: each that may change files, but for one that erases a file."""
     return not are_all(lambda kind, operand: is_harmless(kind, operand) or (kind, operand[:1]) == (ACCESS, ERASE), body)
+
+
+def may_be_kept(body):
+    """Whether they may be kept with the next file that is made: Attributes are."""
+    return not are_all(lambda kind, operand: kind != ATTRIBUTES, body)
 
 
 def is_harmless(kind, operand):

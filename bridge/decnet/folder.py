@@ -1,27 +1,41 @@
 """A folder of this host whose text files are served: each is a sequential file, a line a record, and is written back when
 it is closed.
 
+A file of the host says nothing of its attributes. It is served with the record attribute CR: a record is a line. Where a link
+made it with others, `.daplive` has a comment of it, `# text NAME DIGEST KEPT`, with the digest of its lines and what is kept with
+it; that holds as long as its lines are these.
+
 Files that links make and that are no text, or whose names no file here can have, are kept in the folder's file `.daplive`, as
 `files` prints them, and stay there. A file of the host is never hidden for long, and never lost: what links have put in its place is
 kept in `.daplive`, and is what they see until the host changes its file, or until the next start. Then the host's file is served, and
 the kept one beside it as `NAME.put`. A file that somebody else has edited meanwhile is never overwritten: it gets another name.
 """
+import functools
 import hashlib
 import os
+import re
 
+from decnet import dap, messages, tables
 from decnet.directory import Directory, shown
 from decnet.kept import FILE, HEAD, MARK, RECORD, read_lines
 from decnet.locked import KeptFault, fault_of
 from decnet.texts import TextFault, lines_of, records_of
 
 OTHERS = b".daplive"
-TEXT = "seq variable 0 0"  # the attributes of a text
+TEXT = "seq variable 0 0"  # how the attributes of a text begin
+KEPT = " kept="  # before what is kept besides: an Attributes message, in hex
+STREAMS = tuple(number for number, word in tables.RFM.items() if word.startswith("stream"))
+BIT_OF = {word: bit for bit, word in tables.RAT.items()}
+LINE, BLOCKS = 1 << BIT_OF["CR"], 1 << BIT_OF["BLK"]  # RAT: a record is a line; it may not span blocks
+OF_HOST = messages.attributes(rat=LINE).hex()  # what is kept with a text of the host
+TEXT_NOTE, NOTE_FORM = "# text ", re.compile(r"# text (-|(?:[0-9a-f]{2})+) ([0-9a-f]{64}) (-|(?:[0-9a-f]{2})+)")
 HIDDEN = b"."
 DROP = "drop "  # how a line begins that removes a file
 EDITED = b".host"  # after the name of a file that somebody edited meanwhile
 PUT = b".put"  # after the name of a kept file where the host has one of that name
 MAX_NAME = 200  # bytes of a name here: there has to be room for what is put after it
 MAX_TOLD = 5  # files that aren't served, by name
+MAX_REMEMBERED = 64  # attributes of which it is remembered whether they are a text's
 NAME_TAKEN = "refused 4000 1"  # a live end has a file of that name
 NO_FILE = "refused 4032 0"  # a live end refused the file of a record
 
@@ -46,10 +60,55 @@ def is_host_name(name):
     return 0 < len(name) <= MAX_NAME and not name.startswith(HIDDEN) and b"/" not in name and is_text
 
 
+def kept_of(attributes):
+    """What is kept with a file of these attributes besides its shape, in hex; nothing where nothing is."""
+    return attributes.partition(KEPT)[2]
+
+
+def attributes_of(kept):
+    """The attributes of a text with which this is kept."""
+    return f"{TEXT}{KEPT}{kept}" if kept else TEXT
+
+
+def names_of(rat):
+    """The bits of RAT by their names."""
+    return "+".join(tables.RAT.get(bit, f"bit {bit}") for bit in range(rat.bit_length()) if rat >> bit & 1)
+
+
+@functools.lru_cache(MAX_REMEMBERED)
+def why_no_lines(attributes):
+    """Why a file of these attributes is no text, whatever its records are; nothing where it may be one."""
+    shape, _, kept = attributes.partition(KEPT)
+    why = "its records aren't the lines of a text"
+    if shape != TEXT:
+        return why
+    try:
+        fields = read_kept(kept)
+    except dap.Unread:
+        return why
+    rat = fields.get("rat", 0)
+    if "rfm" in fields and fields["rfm"] not in STREAMS:
+        return f"{why} (RFM {tables.RFM.get(fields['rfm'])})"
+    if rat & ~BLOCKS not in (0, LINE):
+        return f"{why} (RAT {names_of(rat)})"
+    return why if "fsz" in fields else ""
+
+
+def read_kept(kept):
+    """The fields of what is kept, by their names; Unread where a live end doesn't print it so."""
+    if not kept:
+        return {}
+    found = [dap.read_attributes(operand) for _, operand in dap.messages(bytes.fromhex(kept))]
+    if len(found) != 1 or messages.attributes(**found[0]).hex() != kept:
+        raise dap.Unread
+    return found[0]
+
+
 def why_no_text(attributes, records):
     """Why records don't come back as they are when they are read from the lines of a text; nothing where they do."""
-    if attributes != TEXT:
-        return "its records aren't the lines of a text"
+    why = why_no_lines(attributes)
+    if why:
+        return why
     for number, one in enumerate(records, 1):
         if b"\n" in one or one.endswith(b"\r"):
             return f"record {number} has an LF, or a CR at its end, and is no line of a text"
@@ -94,6 +153,7 @@ class Folder:
         self.alike = set()  # of these the ones that a live end refused: another file has the name
         self.kept = {}  # by the name of a file in OTHERS: the state of the file of this host that it stands in for, or None
         self.others, self.is_due = [], False  # the lines that are in OTHERS; whether it is still to be written
+        self.notes = {}  # by the name of a text, in OTHERS: the digest of its records, and what a link made it with, in hex
         self.unserved = {}  # by the name of a file in OTHERS that a live end refused: its lines
         self.given = ()  # the names of the files that a live end was given last
         self.told = []  # what is to be said
@@ -147,8 +207,23 @@ class Folder:
             file = self.directory.open(OTHERS)
         except TextFault as fault:
             raise KeptFault(str(fault), of_machine=True) from fault
-        self.others = [line for _, line in read_lines(self.path_to(OTHERS), file)]
+        self.others = [line for _, line in read_lines(self.path_to(OTHERS), file, self.read_note)]
         return self.others
+
+    def read_note(self, number, line):
+        """A comment in OTHERS: what is kept with a text, or nothing of that."""
+        if not line.startswith(TEXT_NOTE):
+            return
+        found = NOTE_FORM.fullmatch(line)
+        kept = found[3].replace("-", "") if found else ""
+        if not found or why_no_lines(attributes_of(kept)):
+            raise KeptFault(f"{self.path_to(OTHERS)}: line {number}: not what is kept with a text")
+        self.notes[bytes_in(found[1])] = (bytes.fromhex(found[2]), kept)
+
+    def attributes(self, name, digest):
+        """The attributes of a text of which the records have this digest."""
+        noted, kept = self.notes.get(name, (None, None))
+        return attributes_of(kept if noted == digest else OF_HOST)
 
     def read(self, name):
         """The records of a file, and its state before they were read."""
@@ -231,7 +306,7 @@ class Folder:
         if self.known[name][0] == before:
             return []
         lines = [] if before is None and name not in self.kept else [f"{DROP}{digits(name)}"]
-        lines += lines_of_file(name, TEXT, enumerate(records, 1))
+        lines += lines_of_file(name, self.attributes(name, self.known[name][0]), enumerate(records, 1))
         return lines + (self.give_beside(name) if name in self.kept else [])
 
     # ---- what links put in the place of a file of this host
@@ -257,7 +332,7 @@ class Folder:
     def try_to_write_others(self, lines):
         """Writes the others. Where that can't be they are written with the next file that is closed."""
         try:
-            self.write_others(lines)
+            self.write_others(lines, self.notes)
         except OSError as fault:
             self.told.append(f"{self.path_to(OTHERS)}: {fault.strerror}")
             self.others, self.is_due = lines, True
@@ -293,18 +368,28 @@ class Folder:
         self.directory.rename(name, other)
         self.told.append(f"{self.path_to(name)}: {why}: that is {self.path_to(other)} now")
 
-    def write_others(self, lines):
-        """Writes the files that are no text, where they aren't so on the disk."""
-        if lines == self.others and not self.is_due:
+    def write_others(self, lines, notes):
+        """Writes the files that are no text, and what is kept with those that are, where it isn't so on the disk."""
+        if (lines, notes) == (self.others, self.notes) and not self.is_due:
             return
         count = sum(line.startswith(FILE) for line in lines)
-        text = "\n".join([HEAD, *lines, MARK.format(count, len(lines)), ""])
+        noted = [f"{TEXT_NOTE}{digits(name)} {digest.hex()} {kept or '-'}" for name, (digest, kept) in sorted(notes.items())]
+        text = "\n".join([HEAD, *noted, *lines, MARK.format(count, len(lines)), ""])
         self.directory.write(OTHERS, text.encode())
-        self.others, self.is_due = lines, False
+        self.others, self.notes, self.is_due = lines, notes, False
 
     def is_as_known(self, name, attributes, records):
-        """Whether links have left a text as it was read, or written, here."""
+        """Whether links have left the records of a text as they were read, or written, here."""
         return name in self.known and not why_no_text(attributes, records) and digest_of(records) == self.known[name][0]
+
+    def notes_after(self, names, texts):
+        """What is kept with each text, by what a live end lists: these names, of which those texts. What was kept with a text of
+        the host that isn't served as it is here stays."""
+        erased = (self.made | self.served) - names
+        stays = {name for name in self.notes.keys() - texts.keys()
+                 if name in self.left or self.kept.get(name) or name in self.known and name not in erased}
+        notes = {name: self.notes[name] for name in stays}
+        return notes | {name: note for name, note in texts.items() if note[1] != OF_HOST}
 
     def why_kept(self, name, attributes, records):
         """Why a file of a link can't be one of this host; nothing where it can."""
@@ -319,10 +404,11 @@ class Folder:
     def write_back(self, files):
         """Writes all that isn't so on the disk; `files` are names, attributes, and records with their numbers."""
         self.directory.check_there()
-        texts, others, why_kept = {}, [line for lines in self.unserved.values() for line in lines], {}
+        texts, others, why_kept, notes = {}, [line for lines in self.unserved.values() for line in lines], {}, {}
         for name, attributes, numbered in files:
             records = [record for _, record in numbered]
             if self.is_as_known(name, attributes, records):
+                notes[name] = (self.known[name][0], kept_of(attributes))
                 continue
             why = "" if name in self.kept else self.why_kept(name, attributes, records)
             if why:
@@ -331,9 +417,10 @@ class Folder:
                 others += lines_of_file(name, attributes, numbered)
             else:
                 texts[name] = records
+                notes[name] = (digest_of(records), kept_of(attributes))
         for name, records in texts.items():
             self.write_text(name, records)
-        self.write_others(others)
+        self.write_others(others, self.notes_after({name for name, _, _ in files}, notes))
         for name, why in why_kept.items():
             self.keep(name, why)
         self.take_back({name for name, _, _ in files})

@@ -25,12 +25,12 @@ CLOSE_SECONDS = 0.5  # for a save that is given up
 # ---- reading
 
 
-def read_lines(path, opened=None):
-    """The lines of a file of files with their numbers, without comments; a fault where it isn't whole. It may be `opened`
-    already."""
+def read_lines(path, opened=None, note=lambda number, line: None):
+    """The lines of a file of files with their numbers, without comments, of which `note` is told; a fault where it isn't whole.
+    It may be `opened` already."""
     try:
         with open(path if opened is None else opened, **ENCODING) as file:
-            yield from check_lines(path, numbered(path, file))
+            yield from check_lines(path, numbered(path, file), note)
     except OSError as fault:
         raise fault_of(path, fault) from fault
 
@@ -44,12 +44,13 @@ def numbered(path, file):
         yield number, line.rstrip("\r\n")
 
 
-def check_lines(path, lines):
+def check_lines(path, lines, note):
     """The lines that are files, of all of them."""
     first, last, files, count = "", "", 0, 0
     for number, line in lines:
         first, last = first if number > 1 else line, line or last
         if not line or line.startswith("#"):
+            note(number, line)
             continue
         if not line.startswith((FILE, RECORD)):
             raise KeptFault(f"{path}: line {number}: not a line of files")

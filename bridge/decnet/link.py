@@ -418,6 +418,8 @@ class Link:
         """Takes note of a segment that may change files. One that may need more space than there is closes the link."""
         is_whole = packet.kind is Kind.ONLY
         if is_whole and not dap.may_change(packet.body):
+            if self.space and dap.may_be_kept(packet.body):
+                self.space.take(len(packet.body))
             return
         if self.space and (not is_whole or dap.may_store(packet.body)):
             if self.space.is_full:

@@ -2,6 +2,7 @@
 import enum
 import struct
 
+from decnet import tables
 from decnet.nsp import image
 
 # types of messages
@@ -72,15 +73,19 @@ def config(bufsiz=1024, ostype=7, filesys=3, version=(5, 6, 0, 0, 0), syscap=0, 
     return message(CONFIG, struct.pack("<HBB5B", bufsiz, ostype, filesys, *version) + extensible(syscap), has_length)
 
 
-# the fields of an Attributes message that are written, by the bits of its menu
-FIELDS = {"org": (1, lambda value: bytes([value])), "rfm": (2, lambda value: bytes([value])), "rat": (3, extensible),
-          "mrs": (5, lambda value: struct.pack("<H", value)), "fsz": (8, lambda value: bytes([value])),
-          "mrn": (9, lambda value: image(number(value)))}
+def image_of(value):
+    return image(value if isinstance(value, bytes) else number(value))
+
+
+# how a field of an Attributes message is written, by its kind
+WRITERS = {"byte": lambda value: bytes([value]), "word": lambda value: struct.pack("<H", value), "extensible": extensible,
+           "image": image_of}
 
 
 def attributes(**given):
-    menu = sum(1 << FIELDS[name][0] for name in given)
-    return message(ATTRIBUTES, extensible(menu) + b"".join(write(given[name]) for name, (_, write) in FIELDS.items() if name in given))
+    """The message with these fields; of an image, its bytes, or a number."""
+    fields = [(1 << bit, name, WRITERS[kind]) for bit, (name, (kind, _)) in enumerate(tables.ATTRIBUTES.items()) if name in given]
+    return message(ATTRIBUTES, extensible(sum(bit for bit, _, _ in fields)) + b"".join(write(given[name]) for _, name, write in fields))
 
 
 def access(function, name, fac):

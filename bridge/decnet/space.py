@@ -3,7 +3,8 @@ from decnet import log
 from decnet.kept import FILE, RECORD
 
 # A record of N bytes has at most 2 N + 15 in the listing (two spaces, a number of ten digits, a space, two digits a byte or
-# `-`, LF), and at least N + 3 in what is sent to store it (type, flags, an empty record number).
+# `-`, LF), and at least N + 3 in what is sent to store it (type, flags, an empty record number). The line of a file has less
+# than five times the bytes of the Attributes and the Access that make it.
 LISTED = 5
 NEARLY = 16  # with less than this part of the space left it counts as full: else each record would need a count
 

@@ -1,10 +1,10 @@
-"""Words of numbers, as the listing has them. This file is made by tools/tables."""
+"""Words of numbers, as the listing has them, and the fields of Attributes. This file is made by tools/tables."""
 
 OSTYPE = {1: "RT-11", 2: "RSTS/E", 3: "RSX-11S", 4: "RSX-11M", 6: "IAS", 7: "VAX/VMS", 8: "TOPS-20", 9: "TOPS-10",
           12: "RSX-11M-PLUS", 18: "Ultrix-32", 5: "RSX-11D", 10: "RTS-8", 11: "OS-8", 13: "COPOS/11", 14: "P/OS",
           15: "VAXELN", 16: "CP/M", 17: "MS-DOS", 19: "Ultrix-11", 21: "DTF/MVS"}
 ORG = {0: "sequential", 16: "relative", 32: "indexed"}
-RFM = {0: "undefined", 1: "fixed", 2: "variable", 3: "VFC", 4: "stream"}
+RFM = {0: "undefined", 1: "fixed", 2: "variable", 3: "VFC", 4: "stream", 5: "stream LF", 6: "stream CR"}
 ACCFUNC = {1: "open", 2: "create", 3: "rename", 4: "erase", 6: "directory"}
 CTLFUNC = {1: "get", 2: "connect", 3: "update", 4: "put", 5: "delete", 6: "rewind"}
 RAC = {0: "sequential", 1: "by number", 2: "by RFA", 3: "whole file", 4: "by VBN", 5: "blocks"}
@@ -21,3 +21,12 @@ REASON = {1: "file exists", 2: "not permitted", 3: "no current record", 4: "reco
           10: "too large for buffer", 11: "bad attributes", 12: "bad key"}
 FILESYS = {1: "RMS-11", 2: "RMS-20", 3: "RMS-32", 4: "FCS-11", 5: "RT-11", 6: "none", 7: "TOPS-20", 8: "TOPS-10",
            9: "OS-8", 10: "RMS-32S", 11: "CP/M", 12: "MS-DOS", 13: "Ultrix-32", 14: "Ultrix-11"}
+# by the bits of RAT
+RAT = {0: "FTN", 1: "CR", 2: "PRN", 3: "BLK"}
+# Attributes: the most bytes of the menu; by the bits of that each field, its kind, and its bytes or the most
+ATTRIBUTES_MENU = 6
+ATTRIBUTES = {"datatype": ("extensible", 2), "org": ("byte", 1), "rfm": ("byte", 1), "rat": ("extensible", 3),
+              "bls": ("word", 2), "mrs": ("word", 2), "alq": ("image", 5), "bks": ("byte", 1), "fsz": ("byte", 1),
+              "mrn": ("image", 5), "runsys": ("image", 40), "deq": ("word", 2), "fop": ("extensible", 6),
+              "bsz": ("byte", 1), "dev": ("extensible", 6), "sdc": ("extensible", 6), "lrl": ("word", 2),
+              "hbk": ("image", 5), "ebk": ("image", 5), "ffb": ("word", 2), "sbn": ("image", 5)}

@@ -145,7 +145,7 @@ class Listener:
         return [self.attributes(), dap.message(NAME, bytes([1]) + image(b"DISK:[PROBE]" + name + b";1")), dap.message(dap.ACK, b"")]
 
     def attributes(self):
-        shape = {name: value for name, value in self.file["shape"].items() if name in dap.FIELDS and name != "fsz"}
+        shape = {name: value for name, value in self.file["shape"].items() if name != "fsz"}
         if "mrn" in shape:
             shape["mrn"] = int.from_bytes(shape["mrn"], "little")
         return dap.attributes(**{**shape, "rat": 2})

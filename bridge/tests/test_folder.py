@@ -5,11 +5,12 @@ from unittest import mock
 
 from decnet.directory import Directory
 from decnet.folder import Folder
-from decnet.kept import Keeper
+from decnet.kept import Keeper, read_lines
 from decnet.locked import KeptFault
 from tests.support import Case
 
-TEXT = "seq variable 0 0"
+PLAIN = "seq variable 0 0"  # nothing is kept besides
+TEXT = f"{PLAIN} kept=0202020802"  # RAT 2, as a text of the host is served
 
 
 def name_of(text):
@@ -33,6 +34,19 @@ class FolderCase(Case):
 
     def lines(self, folder):
         return [line for _, line in folder.read_lines()]
+
+    def again(self, folder):
+        """The lines that the folder has after a restart, and what is said then; it isn't served after that."""
+        folder.close()
+        folder = self.open()
+        found = self.lines(folder), folder.said()
+        folder.close()
+        return found
+
+    def kept_text(self):
+        """The file of what no file here can hold; nothing where there is none."""
+        path = self.path / ".daplive"
+        return path.read_text() if path.exists() else ""
 
     def write_back(self, folder, lines):
         """Writes back what a live end answers; what is said of it, and its fault."""
@@ -177,7 +191,7 @@ class ChangesTest(FolderCase):
         self.put(a=b"one\n", A=b"two\n")
         folder = self.open()
         self.lines(folder)
-        self.assertTrue(folder.leaves_out("file 61 seq variable 0 0", "refused 4000 1"))
+        self.assertTrue(folder.leaves_out(f"file 61 {TEXT}", "refused 4000 1"))
         self.assertTrue(folder.leaves_out("  1 41", "refused 4032 0"))
         self.assertFalse(folder.leaves_out("  1 41", "refused no-memory"))
         self.assertEqual(folder.said(), [f"{self.path}/a: another file has this name: it isn't served"])
@@ -255,7 +269,7 @@ class WriteTest(FolderCase):
         self.lines(folder)
         others = [*file_of("r", b"x", attributes="rel variable 0 9"), *file_of("lf", b"a\nb"), *file_of("cr", b"a\r"),
                   *file_of("../up", b"x"), *file_of("a/b", b"x"), *file_of(".hidden", b"x"), *file_of("\x1b", b"x"), *file_of("\udcff", b"x"),
-                  *file_of("folder", b"x"), *file_of("n" * 201, b"x"), "file - seq variable 0 0"]
+                  *file_of("folder", b"x"), *file_of("n" * 201, b"x"), f"file - {TEXT}"]
         folder.said()
         told, fault = self.write_back(folder, [*file_of("a", b"one"), *others])
         self.assertEqual((len(told), fault), (sum(line.startswith("file") for line in others), None))
@@ -327,7 +341,7 @@ class WriteTest(FolderCase):
     def test_names_that_are_there_are_not_taken_for_it(self):
         folder = self.begun()
         self.put(**{"a": b"edited\n", "a.put": b"of the host\n"})
-        self.assertIn(f"file {name_of('a.put.2')} seq variable 0 0", folder.changes())
+        self.assertIn(f"file {name_of('a.put.2')} {TEXT}", folder.changes())
 
     def test_what_a_link_stored_while_the_name_was_no_plain_file(self):
         """A folder, or a symbolic link, has the name for a moment; then the host's file is there again."""
@@ -443,3 +457,180 @@ class WriteTest(FolderCase):
                 keeper.look()
         self.assertEqual(faults, [None])
         self.assertEqual(self.texts(), {"a": b"new\n", "a.host": b"edited\n"})
+
+
+class AttributesTest(FolderCase):
+    """What is kept with a file besides its records: RAT and the like."""
+
+    # what is kept with texts: nothing, RAT 0, 2 and 8 with it, RFM 4, 5 and 6, and all that doesn't matter
+    TEXTS = (PLAIN, TEXT, *(f"{PLAIN} kept={kept}" for kept in (
+        "0202020800", "0202020808", "020202080a", "0202020404", "0202020405", "0202020406", "0202030c0402",
+        "02020a" "9d41" "8101" "04" "0a" "0002" "10" "08")))
+    # and with files that are none, with why
+    OTHERS = {"rel variable 0 0 kept=0202020802": "", "seq fixed 1 0 kept=0202020802": "", "seq variable 9 0 kept=0202020802": "",
+              f"{PLAIN} kept=0202020801": " (RAT FTN)", f"{PLAIN} kept=0202020804": " (RAT PRN)", f"{PLAIN} kept=0202020803": " (RAT FTN+CR)",
+              f"{PLAIN} kept=0202020812": " (RAT CR+bit 4)", f"{PLAIN} kept=0202058c02030202": " (RFM VFC)",
+              f"{PLAIN} kept=0202020400": " (RFM undefined)"}
+
+    def test_a_text_with_which_a_link_kept_something_is_one_of_the_host_and_has_it_after_a_restart(self):
+        for attributes in self.TEXTS:
+            folder = self.open()
+            self.lines(folder)
+            lines = file_of("a", b"one", attributes=attributes)
+            self.assertEqual(self.write_back(folder, lines), ([], None), attributes)
+            self.assertEqual(self.texts(), {"a": b"one\n"}, attributes)
+            self.assertEqual((folder.changes(), self.again(folder)), ([], (lines, [])), attributes)
+            (self.path / "a").unlink()
+            (self.path / ".daplive").unlink(missing_ok=True)
+
+    def test_only_what_a_text_of_the_host_has_takes_no_line(self):
+        for attributes in self.TEXTS:
+            folder = self.open()
+            self.lines(folder)
+            self.write_back(folder, file_of("a", b"one", attributes=attributes))
+            self.assertEqual("# text 61 " in self.kept_text(), attributes != TEXT, attributes)
+            folder.close()
+            (self.path / "a").unlink()
+            (self.path / ".daplive").unlink(missing_ok=True)
+
+    def test_what_is_no_text_is_kept_whole_and_the_log_says_why(self):
+        for attributes, why in self.OTHERS.items():
+            folder = self.open()
+            self.lines(folder)
+            lines = file_of("a", b"1", attributes=attributes)
+            told, fault = self.write_back(folder, lines)
+            self.assertEqual((told, fault), ([f"{self.path}/a: its records aren't the lines of a text{why}: it is kept in .daplive"], None))
+            self.assertEqual((self.texts(), self.again(folder)), ({}, (lines, [])), attributes)
+            (self.path / ".daplive").unlink()
+
+    def test_what_a_live_end_never_prints_is_no_text(self):
+        """FSZ without RFM 3, another type, two messages, none, bytes after it, a number in more bytes than it takes."""
+        for kept in ("020203800202", "0102020802", "02020208020202020802", "00", "020203080200", "020203088200", "0202", "02020280"):
+            folder = self.open()
+            self.lines(folder)
+            self.write_back(folder, file_of("a", b"1", attributes=f"{PLAIN} kept={kept}"))
+            self.assertEqual(self.texts(), {}, kept)
+            folder.close()
+            (self.path / ".daplive").unlink()
+
+    def made(self, *records, kept="020203090202", name="a"):
+        """A folder in which a link has made a text, with DATATYPE 2 and RAT 2."""
+        folder = self.open()
+        self.lines(folder)
+        self.assertEqual(self.write_back(folder, file_of(name, *records, attributes=f"{PLAIN} kept={kept}")), ([], None))
+        return folder
+
+    MADE = f"{PLAIN} kept=020203090202"
+
+    def test_what_the_host_edits_is_a_text_of_the_host(self):
+        folder = self.made(b"one")
+        self.put(a=b"edited\n")
+        edited = file_of("a", b"edited")
+        self.assertEqual(folder.changes(), ["drop 61", *edited])
+        self.assertEqual(self.write_back(folder, edited), ([], None))
+        self.assertNotIn("# text", self.kept_text())
+        self.assertEqual(self.again(folder), (edited, []))
+
+    def test_an_edit_while_nothing_is_served_is_seen_and_one_that_is_taken_back_is_none(self):
+        self.made(b"one").close()
+        self.put(a=b"edited\n")
+        self.assertEqual(self.lines(folder := self.open()), file_of("a", b"edited"))
+        folder.close()
+        self.put(a=b"one\r\n")
+        self.assertEqual(self.lines(self.open()), file_of("a", b"one", attributes=self.MADE))
+
+    def test_other_attributes_of_the_same_records_are_kept(self):
+        """A link has erased the file, and made it anew."""
+        self.put(a=b"one\n")
+        folder = self.open()
+        self.lines(folder)
+        before = (self.path / "a").stat().st_ino
+        for attributes in (self.MADE, PLAIN, TEXT):
+            lines = file_of("a", b"one", attributes=attributes)
+            self.assertEqual(self.write_back(folder, lines), ([], None))
+            self.assertEqual(self.again(folder), (lines, []), attributes)
+            self.lines(folder := self.open())
+        self.assertEqual((self.path / "a").stat().st_ino, before, "the host's file isn't written")
+
+    def test_records_that_a_link_puts_after_it_keep_it(self):
+        folder = self.made(b"one")
+        lines = file_of("a", b"one", b"two", attributes=self.MADE)
+        self.assertEqual(self.write_back(folder, lines), ([], None))
+        self.assertEqual((self.texts(), self.again(folder)), ({"a": b"one\ntwo\n"}, (lines, [])))
+
+    def test_a_file_that_is_erased_takes_it_along(self):
+        folder = self.made(b"one")
+        self.assertEqual(self.write_back(folder, []), ([], None))
+        self.assertEqual((self.texts(), "# text" in self.kept_text()), ({}, False))
+        self.put(a=b"one\n")
+        self.assertEqual(folder.changes(), file_of("a", b"one"))
+
+    def test_a_file_that_is_gone_takes_it_along(self):
+        folder = self.made(b"one")
+        (self.path / "a").unlink()
+        self.assertEqual((folder.changes(), self.write_back(folder, [])), (["drop 61"], ([], None)))
+        self.assertNotIn("# text", self.kept_text())
+        folder.close()
+        self.made(b"one").close()
+        (self.path / "a").unlink()
+        self.lines(folder := self.open())
+        self.write_back(folder, file_of("b", b"x"))
+        self.assertNotIn("# text", self.kept_text())
+
+    def test_it_stays_where_the_file_is_not_served_for_a_while(self):
+        """Another file has the name, or the live end had no memory for it."""
+        self.made(b"one").close()
+        lines = self.lines(folder := self.open())
+        self.assertTrue(folder.leaves_out(lines[0], "refused 4000 1"))
+        self.assertEqual(self.write_back(folder, file_of("b", b"x"))[1], None)
+        self.assertEqual(self.again(folder)[0], [*file_of("a", b"one", attributes=self.MADE), *file_of("b", b"x")])
+
+    def test_it_stays_with_the_file_in_whose_place_links_put_another(self):
+        folder = self.made(b"one")
+        put = file_of("a", b"one\ntwo", attributes=self.MADE)
+        for text in (b"x", b"y"):
+            self.assertEqual(self.write_back(folder, [*put, *file_of("b", text)])[1], None)
+        self.assertEqual(self.again(folder)[0], [*file_of("a", b"one", attributes=self.MADE), *file_of("b", b"y"),
+                                                 *file_of("a.put", b"one\ntwo", attributes=self.MADE)])
+
+    def test_it_stays_where_a_file_was_given_after_the_live_end_had_listed_its_files(self):
+        self.made(b"one").close()
+        os.rename(self.path / "a", self.folder / "away")
+        self.lines(folder := self.open())
+        os.rename(self.folder / "away", self.path / "a")
+        lines = file_of("a", b"one", attributes=self.MADE)
+        self.assertEqual(folder.changes(), lines)
+        self.assertEqual(self.write_back(folder, []), ([], None))
+        self.assertEqual((self.texts(), self.again(folder)), ({"a": b"one\n"}, (lines, [])))
+
+    def test_the_lines_of_other_files_stay_as_they_are(self):
+        kept = file_of("v", b"x", attributes=f"{PLAIN} kept=0202058c02030402")
+        folder = self.made(b"one")
+        text = file_of("a", b"one", attributes=self.MADE)
+        self.assertEqual(self.write_back(folder, [*text, *kept])[1], None)
+        self.assertEqual(self.again(folder), ([*text, *kept], []))
+
+    def test_a_comment_that_says_no_such_thing_stops_the_start(self):
+        path = self.path / ".daplive"
+        end = "# end of files: 0 files, 0 lines\n"
+        good = f"# text 61 {'0' * 64} 020203090202"
+        self.put(a=b"one\n")
+        for line in (good, f"# text 61 {'0' * 64} -", "# of my own"):
+            path.write_text(f"# kept by bridge.py\n{line}\n{end}")
+            self.assertEqual(self.lines(folder := self.open()), file_of("a", b"one"), "the digest of other lines")
+            folder.close()
+        for line in ("# text 61", good[:-1], f"{good} -", good.replace(" 61 ", "  "), good.replace("0" * 64, "0" * 63),
+                     f"# text 61 {'0' * 64} 0202020801", f"# text 61 {'0' * 64} 0202", f"# text 61 {'0' * 64} 0202020802ff"):
+            path.write_text(f"# kept by bridge.py\n{line}\n{end}")
+            folder = self.open()
+            with self.assertRaisesRegex(KeptFault, "/.daplive: line 2: not what is kept with a text", msg=line):
+                self.lines(folder)
+            folder.close()
+
+    def test_a_bridge_without_them_reads_the_other_files(self):
+        """They are comments to whoever reads files, as a live end or a bridge of before."""
+        kept = file_of("r", b"x", attributes="rel variable 0 9")
+        folder = self.made(b"one")
+        self.write_back(folder, [*file_of("a", b"one", attributes=self.MADE), *kept])
+        self.assertIn("# text", self.kept_text())
+        self.assertEqual([line for _, line in read_lines(self.path / ".daplive")], kept)

@@ -12,7 +12,7 @@ from tests.datagrams import log_of
 from tests.support import SEED, Case
 
 PROGRAM = f"{'0' * 64} serve"
-FILES = ["file 46 seq variable 0 0", "  1 41"]
+FILES = ["file 46 seq variable 0 0 kept=020203090202", "  1 41"]
 LINES = 60
 
 

@@ -8,7 +8,7 @@ from decnet import kept
 from decnet.kept import HEAD, Keeper, KeptFault, KeptFile, read_lines
 from tests.support import Case
 
-FILES = ["file 46 rel variable 0 0", "  3 41", "file 47 seq fixed 2 0"]
+FILES = ["file 46 rel variable 0 0 kept=0202058c02030402", "  3 41", "file 47 seq fixed 2 0 kept=0202020802"]
 MARK = "# end of files: 2 files, 3 lines"
 WHOLE = "".join(f"{line}\n" for line in [HEAD, *FILES, MARK])
 

@@ -58,7 +58,7 @@ def tearDownModule():
 class Transfer:
     """Requests that store and fetch files, with the reports that have to come and the files that have to be there."""
 
-    PRELOADED = ["file 505245 rel variable 0 9", "  2 70726573656e74", "  5 -"]
+    PRELOADED = ["file 505245 rel variable 0 9 kept=0202020802", "  2 70726573656e74", "  5 -"]
 
     def __init__(self, seed):
         chance = random.Random(seed)
@@ -469,7 +469,8 @@ class FaultTest(NetworkCase):
         expect("ended with status -9" in server.told(), f"it says {server.told()}")
         expect("reason 9 (aborted)" in child.told(), f"it says {child.told()}")
         bad = {"file 46 seq variable 0": "line 2: refused bad-line", "  1 41": "line 2: refused 4032 0",
-               "resend": "line 2: not a line of files", "file 46 seq fixed 0 0": "line 2: refused 4000 11"}
+               "resend": "line 2: not a line of files", "file 46 seq fixed 0 0": "line 2: refused 4000 11",
+               "file 46 seq fixed 4 0 kept=0202020403": "line 2: refused bad-line"}
         for line, text in bad.items():
             child = self.bridge("serve", "--files", self.file("bad", ["# a comment", line]))
             expect_equal(child.finish(), 1, f"the exit status where a line of files is {line}")

@@ -121,7 +121,7 @@ class BridgeTest(UdpCase):
         child = self.probe("--quiet", "0.5")
         lines = child.reports()
         self.assertEqual((child.finish(), child.told()), (1, ""))
-        self.assertEqual(lines[-1], "75 same, 20 same, more, 27 alike, 16 differs, 1 no answer")
+        self.assertEqual(lines[-1], "78 same, 23 same, more, 27 alike, 10 differs, 1 no answer")
         self.assertTrue(lines[0].startswith("system 7 (VAX/VMS), files 3 (RMS-32), DAP 7.2.0.115.0, buffer 4156; "), lines[0])
         text = "\n".join(lines)
         for row in ("find                     yes                              status 2", "names with a version     yes",

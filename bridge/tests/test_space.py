@@ -1,5 +1,5 @@
 """How much a link may store: what is counted, and what becomes of a link that stores more."""
-from decnet import nsp
+from decnet import dap, messages, nsp
 from decnet.nsp import Kind, Reason
 from decnet.space import LISTED, Space
 from tests.datagrams import UdpCase
@@ -58,6 +58,25 @@ class CountTest(Case):
             self.assertLessEqual(listed, LISTED * (3 + size))
 
 
+    def test_the_most_that_the_line_of_a_file_can_come_to(self):
+        """Of Attributes and Access without LENGTH and FAC, as short as they can be."""
+        values = {"datatype": 16_383, "rat": 2_097_151, "bls": 65_535, "bks": 255, "bsz": 255, "rfm": 3, "fsz": 255, "org": 16, "mrs": 32_512,
+                  "mrn": 2_147_483_647}
+        for count in range(len(values) + 1):
+            for size in (0, 1, 50):
+                fields = dict(list(values.items())[:count])
+                kept = messages.attributes(**{name: value for name, value in fields.items() if name not in ("org", "mrs", "mrn")})
+                numbers = f"{fields.get('mrs', 0)} {fields.get('mrn', 0)}"
+                line = f"file {'00' * size or '-'} seq variable {numbers}" + (f" kept={kept.hex()}" if len(kept) > 4 else "") + "\n"
+                sent = len(messages.attributes(**fields)) - 1 + 5 + size if fields else 5 + size
+                self.assertLessEqual(len(line), LISTED * sent, line)
+
+    def test_attributes_are_counted_and_no_others_that_change_nothing(self):
+        kept = messages.attributes(rat=2)
+        for body, is_so in ((kept, True), (kept + ERASE, True), (CONFIGURATION, False), (messages.access(1, b"F", 2), False), (b"\2", True)):
+            self.assertEqual(dap.may_be_kept(body), is_so, body)
+
+
 class BridgeTest(UdpCase):
     def test_a_link_that_stores_too_much_is_closed_and_one_that_reads_is_not(self):
         answer = "return ['file 46 seq variable 0 0', '  1 ' + '41' * 600] if line == 'files' else ['accepted'] if line[0] == '>' else []"
@@ -80,5 +99,18 @@ class BridgeTest(UdpCase):
             station.say(segment(station.remote, station.local, number, CONFIGURATION))
         station.say(segment(station.remote, station.local, 50, ERASE))
         station.hear_nothing({Kind.DISCONNECT}, "where nothing is stored, or a file is erased")
+        station.disconnect()
+        self.stop(child)
+
+    def test_attributes_that_come_alone_are_counted_and_close_no_link(self):
+        answer = "return ['file 46 seq variable 0 0', '  1 ' + '41' * 600] if line == 'files' else ['accepted'] if line[0] == '>' else []"
+        child = self.serve("--space", "1024", program=self.stand_in(answer))
+        station = self.station()
+        station.connect(1)
+        kept = messages.attributes(rat=2)
+        for number in range(1, 50):
+            station.say(segment(station.remote, station.local, number, kept))
+        child.wait_for("the files have 1230 bytes, and --space allows 1024: nothing more is stored")
+        station.hear_nothing({Kind.DISCONNECT}, "where Attributes come, as before an open")
         station.disconnect()
         self.stop(child)

@@ -310,7 +310,8 @@ local WORDS = {
     [11] = "OS-8", [13] = "COPOS/11", [14] = "P/OS", [15] = "VAXELN", [16] = "CP/M", [17] = "MS-DOS",
     [19] = "Ultrix-11", [21] = "DTF/MVS" },
   org = { [0] = "sequential", [16] = "relative", [32] = "indexed" },
-  rfm = { [0] = "undefined", [1] = "fixed", [2] = "variable", [3] = "VFC", [4] = "stream" },
+  rfm = { [0] = "undefined", [1] = "fixed", [2] = "variable", [3] = "VFC", [4] = "stream", [5] = "stream LF",
+    [6] = "stream CR" },
   accfunc = { [1] = "open", [2] = "create", [3] = "rename", [4] = "erase", [6] = "directory" },
   ctlfunc = { [1] = "get", [2] = "connect", [3] = "update", [4] = "put", [5] = "delete", [6] = "rewind" },
   rac = { [0] = "sequential", [1] = "by number", [2] = "by RFA", [3] = "whole file", [4] = "by VBN", [5] = "blocks" },
@@ -331,10 +332,11 @@ local WORDS = {
     [7] = "TOPS-20", [8] = "TOPS-10", [9] = "OS-8", [10] = "RMS-32S", [11] = "CP/M", [12] = "MS-DOS",
     [13] = "Ultrix-32", [14] = "Ultrix-11" },
 }
+local RAT = { [0] = "FTN", [1] = "CR", [2] = "PRN", [3] = "BLK" }
 -- Up to here it was made by tools/tables.
 for number, word in pairs(WORDS.ctlfunc) do WORDS.ctlfunc[number] = word:upper() end
 local BITS = {
-  datatype = { [0] = "ASCII", "image" }, rat = { [0] = "FTN", "CR", "PRN", "BLK" },
+  datatype = { [0] = "ASCII", "image" }, rat = RAT,
   fac = { [0] = "PUT", "GET", "DEL", "UPD" }, shr = { [0] = "PUT", "GET", "DEL", "UPD" },
 }
 local CONNECT = 2

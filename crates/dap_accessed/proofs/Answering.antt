@@ -26,6 +26,7 @@ use Rattle.dap_msg.specs.Blocked.{AllFit}
 use Rattle.dap_msg.specs.Sendable.{IsSendable, AreSendable}
 use Rattle.dap_msg.proofs.ForCallers.{answers_fit, type_short}
 use Rattle.rec_file.specs.declared.shapes.Shape.{Shape}
+use Rattle.dap_accessed.specs.declared.asked.Asked.{Asked}
 use Rattle.rec_file.specs.declared.refusals.Refusal.{Refusal}
 use Rattle.rec_file.specs.declared.refusals.Refusal.TheVariants.{NotPermitted, EndOfFile}
 use Rattle.rec_file.specs.declared.picks.Pick.{Pick}
@@ -43,8 +44,8 @@ use Rattle.std.proofs.lemmas.List.Sums.{take_while-cons}
 use Rattle.dap_msg.specs.BothEnds.{message_limit}
 use Rattle.dap_accessed.specs.Standing.{Files, enters}
 use Rattle.dap_accessed.specs.Standing.{index_by, index_to_erase, file_at, the_file, ServerState, Fresh, Ready, Opened, Connected, Store, Stopped, Group, Standing, Scene, Effect}
-use Rattle.dap_accessed.specs.Past.{asked_shape, kept_attributes, is_dropping, ordinal_so_far, next_ordinal}
-use Rattle.dap_accessed.specs.Replies.{bare_status, reason_status, sync_status, reason_of, refusal_status, done_status, record_status, too_large, coded, complete_response, org_number, format_number, opened_with}
+use Rattle.dap_accessed.specs.Past.{asked_file, kept_attributes, is_dropping, ordinal_so_far, next_ordinal}
+use Rattle.dap_accessed.specs.Replies.{bare_status, reason_status, sync_status, reason_of, refusal_status, done_status, record_status, too_large, coded, complete_response, opened_with}
 use Rattle.dap_accessed.specs.Accesses.{effect_if_permitted, rights_to_create, rights_to_erase, erase_file, rights_to_open, make_file, open_file, create_file, access_file, end_stream, complete}
 use Rattle.dap_accessed.specs.Records.{at_number, stream_without_current, verb_of, get_pick, got, record_got, Change, Putting, Updating, effect_of_change, fits_limit, filedata_of}
 use Rattle.dap_accessed.specs.Transfers.{fetch, fetch_ends, continue_refused, continue_fetch, store_one, stored_answers, continue_store}
@@ -55,9 +56,12 @@ use Rattle.dap_accessed.specs.Groups.{Answers, stands_after, answers_added}
 use Rattle.dap_accessed.specs.Sound.{AreFiles, IsOpenAt, IsSound}
 use Rattle.dap_accessed.proofs.Kept.{both}
 use Rattle.dap_accessed.proofs.SoundTables.{AllFiles, file-there}
-use Rattle.dap_accessed.proofs.SoundGroups.{Good, good-shape, index-within}
+use Rattle.dap_accessed.proofs.Asking.{Good, good-file}
+use Rattle.dap_accessed.proofs.SoundGroups.{index-within}
 use Rattle.dap_accessed.proofs.SoundLists.{all-sound}
-use Rattle.dap_accessed.proofs.Writing.{org_small, format_small}
+use Rattle.rec_file.specs.declared.look.Look.{Look}
+use Rattle.rec_file.specs.Looks.{IsLook}
+use Rattle.dap_accessed.proofs.Writing.{attributes_fit}
 
 -- the type of a message is one byte
 abbrev pub HasShortType : Item → Type 0
@@ -116,9 +120,9 @@ module _ (limit : ℕ) (least : min_buffer ≤ limit) where
   ended : IsSendable limit complete_response
   ended = short complete_response (answers_fit.complete 2 (lit< tt))
 
-  opened : (shape : Shape) → IsTrue (is_shape shape) → AreSendable limit (opened_with shape)
-  opened shape h = (
-    short _ (answers_fit.attributes (org_number shape.org) (format_number shape.format) shape.mrs shape.mrn (org_small shape.org) (format_small shape.format) (shape_small shape h)),
+  opened : (shape : Shape) (look : Look) → IsTrue (is_shape shape) → IsLook shape look → AreSendable limit (opened_with shape look)
+  opened shape look h is = (
+    short _ (attributes_fit shape look (shape_small shape h) is),
     (short Ack answers_fit.ack, tt),
   )
 
@@ -161,13 +165,13 @@ module _ (own : ServerSetup) (small_own : FieldsFit (Config own.identity)) (scen
   opening : (fac : ℕ) (at : Option ℕ) → IfSome at (λ n. n < length scene.files) → Sends (open_file own scene fac at)
   opening fac None h = (bare scene.limit least 0x4032 (lit< tt), tt)
   opening fac (Some at) h =
-      permitting (rights_to_open fac) _ (opened scene.limit least (file_at at scene.files).shape (file-there scene.files at files h).shape)
+      permitting (rights_to_open fac) _ (opened scene.limit least (file_at at scene.files).shape (file_at at scene.files).look (file-there scene.files at files h).shape (file-there scene.files at files h).look)
 
-  making : (name : List ℕ) (fac : ℕ) (shape : Option Shape) → Good shape → Sends (make_file scene name fac shape)
+  making : (name : List ℕ) (fac : ℕ) (shape : Option Asked) → Good shape → Sends (make_file scene name fac shape)
   making name fac None g = (reasoned scene.limit least own.full 0x4000 11 [] (lit< tt) (lit≤ tt), tt)
-  making name fac (Some shape) g = opened scene.limit least shape g
+  making name fac (Some asked) g = opened scene.limit least asked.shape asked.look g.shape g.look
 
-  creating : (name : List ℕ) (fac : ℕ) (at : Option ℕ) (shape : Option Shape) → Good shape → Sends (create_file own scene name fac at shape)
+  creating : (name : List ℕ) (fac : ℕ) (at : Option ℕ) (shape : Option Asked) → Good shape → Sends (create_file own scene name fac at shape)
   creating name fac (Some at) shape g = (reasoned scene.limit least own.full 0x4000 1 [] (lit< tt) (lit≤ tt), tt)
   creating name fac None shape g = permitting (rights_to_create fac) _ (making name fac shape g)
 
@@ -175,7 +179,7 @@ module _ (own : ServerSetup) (small_own : FieldsFit (Config own.identity)) (scen
   erasing None = (bare scene.limit least 0x4032 (lit< tt), tt)
   erasing (Some at) = permitting rights_to_erase _ (short scene.limit least Ack answers_fit.ack, (ended scene.limit least, tt))
 
-  accessing : (a : AccessFields) (shape : Option Shape) → Good shape → Sends (access_file own scene a shape)
+  accessing : (a : AccessFields) (shape : Option Asked) → Good shape → Sends (access_file own scene a shape)
   accessing a shape g =
       let found = index_by own.names a.name scene.files in
       either (a.func == codes.accfunc.opening) _ _ (opening a.fac found (index-within own.names a.name scene.files))
@@ -295,7 +299,7 @@ module _ (own : ServerSetup) (small_own : FieldsFit (Config own.identity)) (scen
   of-message past Fresh h m t = (out scene.limit least m t, tt)
   of-message past Ready h (Other _ _) t = tt
   of-message past Ready h (Attrib _) t = tt
-  of-message past Ready h (Access a) t = accessing a (asked_shape (kept_attributes past)) (good-shape (kept_attributes past))
+  of-message past Ready h (Access a) t = accessing a (asked_file own.full (kept_attributes past)) (good-file own.full (kept_attributes past))
   of-message past Ready h m t = (out scene.limit least m t, tt)
   of-message past (Opened o) h (Control c) t = opened-control o h (verb_of c)
   of-message past (Opened o) h (Accomp c) t = completing-sends c.func o (Opened o)

@@ -11,7 +11,8 @@ use Rattle.dap_msg.specs.declared.message.ControlFields.{ControlFields}
 use Rattle.dap_msg.specs.declared.message.Message.TheVariants.{Config, Access, Control, Contran, Accomp, Filedata}
 use Rattle.dap_msg.specs.declared.items.Item.{Item}
 use Rattle.dap_msg.specs.declared.items.Item.TheVariants.{Whole, Malformed}
-use Rattle.rec_file.specs.declared.shapes.Shape.{Shape}
+use Rattle.dap_accessed.specs.declared.asked.Asked.{Asked}
+use Rattle.dap_accessed.specs.Asked.{made_file}
 use Rattle.rec_file.specs.declared.refusals.Refusal.{Refusal}
 use Rattle.rec_file.specs.declared.picks.Pick.{Pick}
 use Rattle.rec_file.specs.Files.{FileVal, records_from}
@@ -22,8 +23,8 @@ use Rattle.dap_accessed.specs.declared.verbs.Verb.{Verb}
 use Rattle.dap_accessed.specs.declared.verbs.Verb.TheVariants as verbs
 use Rattle.dap_accessed.specs.Setup.{lacks, same_name}
 use Rattle.dap_accessed.specs.Replies.{bare_status}
-use Rattle.dap_accessed.specs.Standing.{Files, new_file, index_by, index_to_erase, with_file, the_file, ServerState, Fresh, Ready, Opened, Connected, Store, Stopped, Group, Standing, Scene, Effect, start, enters}
-use Rattle.dap_accessed.specs.Past.{asked_shape, kept_attributes, is_dropping}
+use Rattle.dap_accessed.specs.Standing.{Files, index_by, index_to_erase, with_file, the_file, ServerState, Fresh, Ready, Opened, Connected, Store, Stopped, Group, Standing, Scene, Effect, start, enters}
+use Rattle.dap_accessed.specs.Past.{asked_file, kept_attributes, is_dropping}
 use Rattle.dap_accessed.specs.Accesses.{rights_to_create, rights_to_erase, erase_file, rights_to_open, make_file, open_file, create_file, access_file, end_stream, complete}
 use Rattle.dap_accessed.specs.Records.{at_number, verb_of, get_pick, got, record_got, Change, Putting, Updating, effect_of_change, fits_limit}
 use Rattle.dap_accessed.specs.Transfers.{fetch, fetch_ends, continue_fetch}
@@ -66,12 +67,12 @@ module _ (own : ServerSetup) where
     opening fac None = stays
     opening fac (Some at) = either (lacks own.most (rights_to_open fac)) _ _ stays stays
 
-    making : (name : List ℕ) (fac : ℕ) (shape : Option Shape) → index_by own.names name scene.files ≡ None → Leaves (make_file scene name fac shape)
+    making : (name : List ℕ) (fac : ℕ) (shape : Option Asked) → index_by own.names name scene.files ≡ None → Leaves (make_file scene name fac shape)
     making name fac None none = stays
     making name fac (Some shape) none = λ h.
-        distinct-more same scene.files (name, new_file shape) h (none-passes (λ (f : List ℕ × FileVal). same f.0 name) scene.files none)
+        distinct-more same scene.files (name, made_file shape) h (none-passes (λ (f : List ℕ × FileVal). same f.0 name) scene.files none)
 
-    creating : (name : List ℕ) (fac : ℕ) (found : Option ℕ) (shape : Option Shape) → index_by own.names name scene.files ≡ found → Leaves (create_file own scene name fac found shape)
+    creating : (name : List ℕ) (fac : ℕ) (found : Option ℕ) (shape : Option Asked) → index_by own.names name scene.files ≡ found → Leaves (create_file own scene name fac found shape)
     creating name fac (Some at) shape e = stays
     creating name fac None shape e = either (lacks own.most (rights_to_create fac)) _ _ stays (making name fac shape e)
 
@@ -79,7 +80,7 @@ module _ (own : ServerSetup) where
     erasing None = stays
     erasing (Some at) = either (lacks own.most rights_to_erase) _ _ stays (λ h. distinct-without same scene.files at h)
 
-    accessing : (a : AccessFields) (shape : Option Shape) → Leaves (access_file own scene a shape)
+    accessing : (a : AccessFields) (shape : Option Asked) → Leaves (access_file own scene a shape)
     accessing a shape =
         let found = index_by own.names a.name scene.files in
         either (a.func == codes.accfunc.opening) _ _ (opening a.fac found)
@@ -162,7 +163,7 @@ module _ (own : ServerSetup) where
     of-message : (past : List Group) (state : ServerState) (m : Message) → LeavesBy (turn_in own scene past state m)
     of-message past Fresh (Config c) = configuring (is_too_small c.bufsiz) c.bufsiz
     of-message past Fresh m = stays
-    of-message past Ready (Access a) = accessing a (asked_shape (kept_attributes past))
+    of-message past Ready (Access a) = accessing a (asked_file own.full (kept_attributes past))
     of-message past Ready m = stays
     of-message past (Opened o) (Control c) = opened-control o (verb_of c)
     of-message past (Opened o) (Accomp c) = completed c.func o (Opened o)

@@ -10,8 +10,12 @@ pub use Rattle.dap_accessed.proofs.Cuts.{Answers-more, answers_after-more}
 pub use Rattle.dap_accessed.proofs.SoundLists.{all-sound}
 -- a file of a table of files is a file; no files are files
 pub use Rattle.dap_accessed.proofs.SoundTables.{AllFiles, file-there, no-files}
--- the shape that attributes ask for is one that the check gives
-pub use Rattle.dap_accessed.proofs.SoundGroups.{good-shape}
+-- a file may be made as attributes ask for it
+pub use Rattle.dap_accessed.proofs.Asking.{Good, a_file_made_fully, good-file}
+-- what is kept with a file has a short spelling
+pub use Rattle.dap_accessed.proofs.Writing.{kept_fits}
+-- the attributes of a file ask for such a file
+pub use Rattle.dap_accessed.proofs.AskingBack.{attributes-back, look-back}
 -- the index of a name is within the table
 pub use Rattle.dap_accessed.proofs.SoundGroups.{index-within}
 -- each answer to one message more has a spelling that the peer takes

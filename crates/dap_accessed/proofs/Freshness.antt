@@ -34,12 +34,12 @@ within-late : (change : Change) (o : OpenFile) (s : StreamVal) → phase_within 
 within-late (Putting key) o s e = cc
 within-late Updating o s e = cc
 
-group-fresh : (s : Standing) (b : Option Begun) → phase_of s b ≡ phases.Fresh → s.state ≡ Fresh
-group-fresh s None e = state-fresh s.state (looked_back s.state s.past) e
-group-fresh s (Some b) e = absurd (within-late b.change b.opened b.stream e)
+group-fresh : (full : Bool) (s : Standing) (b : Option Begun) → phase_of full s b ≡ phases.Fresh → s.state ≡ Fresh
+group-fresh full s None e = state-fresh s.state (looked_back full s.state s.past) e
+group-fresh full s (Some b) e = absurd (within-late b.change b.opened b.stream e)
 
 pub is-fresh : (p : Present) → p.phase ≡ phases.Fresh → IsFresh p
-is-fresh p e = record { is = λ first items h. (let c = stands_after p.setup first items in group-fresh c.standing c.begun (ap (λ (q : Present). q.phase) (sym h) ∙ e)) }
+is-fresh p e = record { is = λ first items h. (let c = stands_after p.setup first items in group-fresh p.setup.full c.standing c.begun (ap (λ (q : Present). q.phase) (sym h) ∙ e)) }
 
 -- ---- Before a Config no group is begun.
 
@@ -66,10 +66,10 @@ whole-on own first before (item ∷ more) h =
     let one : IsWhole (stands_after own first (before ++ item ∷ [])) = subst IsWhole (sym (cut-more own (start first) before item)) (whole-one own c.standing c.begun item) in
     subst (λ (l : List Item). IsWhole (stands_after own first l)) (append_assoc before (item ∷ []) more) (whole-on own first (before ++ item ∷ []) more one)
 
-fresh-phase : (s : Standing) (b : Option Begun) → s.state ≡ Fresh → b ≡ None → phase_of s b ≡ phases.Fresh
-fresh-phase s b at none = rw (none, at) refl
+fresh-phase : (full : Bool) (s : Standing) (b : Option Begun) → s.state ≡ Fresh → b ≡ None → phase_of full s b ≡ phases.Fresh
+fresh-phase full s b at none = rw (none, at) refl
 
 pub is-late : (p : Present) → (p.phase ≡ phases.Fresh → ⊥) → IsLate p
 is-late p late = record {
-  isnt = λ first items h at. (let c = stands_after p.setup first items in late (ap (λ (q : Present). q.phase) h ∙ fresh-phase c.standing c.begun at (whole-on p.setup first [] items (λ e. refl) at)));
+  isnt = λ first items h at. (let c = stands_after p.setup first items in late (ap (λ (q : Present). q.phase) h ∙ fresh-phase p.setup.full c.standing c.begun at (whole-on p.setup first [] items (λ e. refl) at)));
 }

@@ -15,7 +15,7 @@ use Rattle.dap_msg.specs.declared.message.Message.TheVariants.{Config, Access, C
 use Rattle.dap_msg.specs.BothEnds.{is_too_small, message_limit}
 use Rattle.dap_msg.specs.declared.items.Item.{Item}
 use Rattle.dap_msg.specs.declared.items.Item.TheVariants.{Whole, Malformed}
-use Rattle.rec_file.specs.declared.shapes.Shape.{Shape}
+use Rattle.dap_accessed.specs.declared.asked.Asked.{Asked}
 use Rattle.rec_file.specs.declared.refusals.Refusal.{Refusal}
 use Rattle.rec_file.specs.declared.picks.Pick.{Pick}
 use Rattle.rec_file.specs.Files.{records_from}
@@ -24,7 +24,7 @@ use Rattle.dap_accessed.specs.declared.phase.OpenFile.{OpenFile}
 use Rattle.dap_accessed.specs.declared.verbs.Verb.{Verb}
 use Rattle.dap_accessed.specs.declared.verbs.Verb.TheVariants as verbs
 use Rattle.dap_accessed.specs.Standing.{Files, index_by, index_to_erase, the_file, ServerState, Fresh, Ready, Opened, Connected, Store, Stopped, Group, Standing, Scene, Effect, start, enters}
-use Rattle.dap_accessed.specs.Past.{asked_shape, kept_attributes, is_dropping}
+use Rattle.dap_accessed.specs.Past.{asked_file, kept_attributes, is_dropping}
 use Rattle.dap_accessed.specs.Replies.{bare_status, too_large}
 use Rattle.dap_accessed.specs.Accesses.{rights_to_create, rights_to_erase, erase_file, rights_to_open, make_file, open_file, create_file, access_file, end_stream, complete}
 use Rattle.dap_accessed.specs.Records.{verb_of, get_pick, got, record_got, at_number, filedata_of, fits_limit, stream_without_current, Change, Putting, Updating, effect_of_change}
@@ -55,11 +55,11 @@ module _ (scene : Scene) where
   opening own fac None = refl
   opening own fac (Some at) = either (lacks own.most (rights_to_open fac)) _ _ refl refl
 
-  making : (name : List ℕ) (fac : ℕ) (shape : Option Shape) → Late (make_file scene name fac shape)
+  making : (name : List ℕ) (fac : ℕ) (shape : Option Asked) → Late (make_file scene name fac shape)
   making name fac None = refl
   making name fac (Some shape) = refl
 
-  creating : (own : ServerSetup) (name : List ℕ) (fac : ℕ) (at : Option ℕ) (shape : Option Shape) → Late (create_file own scene name fac at shape)
+  creating : (own : ServerSetup) (name : List ℕ) (fac : ℕ) (at : Option ℕ) (shape : Option Asked) → Late (create_file own scene name fac at shape)
   creating own name fac (Some at) shape = refl
   creating own name fac None shape = either (lacks own.most (rights_to_create fac)) _ _ refl (making name fac shape)
 
@@ -67,7 +67,7 @@ module _ (scene : Scene) where
   erasing own None = refl
   erasing own (Some at) = either (lacks own.most rights_to_erase) _ _ refl refl
 
-  accessing : (own : ServerSetup) (a : AccessFields) (shape : Option Shape) → Late (access_file own scene a shape)
+  accessing : (own : ServerSetup) (a : AccessFields) (shape : Option Asked) → Late (access_file own scene a shape)
   accessing own a shape =
       let found = index_by own.names a.name scene.files in
       either (a.func == codes.accfunc.opening) _ _ (opening own a.fac found)
@@ -139,7 +139,7 @@ module _ (scene : Scene) where
 
   of-message : (own : ServerSetup) (past : List Group) (state : ServerState) → is_late state ≡ true → (m : Message) → LateTurn (turn_in own scene past state m)
   of-message own past Fresh h m = cc
-  of-message own past Ready h (Access a) = accessing own a (asked_shape (kept_attributes past))
+  of-message own past Ready h (Access a) = accessing own a (asked_file own.full (kept_attributes past))
   of-message own past Ready h m = refl
   of-message own past (Opened o) h (Control c) = opened-control o (verb_of c)
   of-message own past (Opened o) h (Accomp c) = completing c.func o (Opened o) refl

@@ -13,6 +13,8 @@ pub mod Freshness
 pub mod Lateness
 pub mod Kept
 pub mod SoundTables
+pub mod Asking
+pub mod AskingBack
 pub mod SoundGroups
 pub mod SoundLists
 pub mod Given

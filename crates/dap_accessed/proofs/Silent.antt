@@ -13,7 +13,7 @@ use Rattle.dap_msg.specs.declared.items.Item.{Item}
 use Rattle.dap_msg.specs.declared.items.Item.TheVariants.{Whole, Malformed}
 use Rattle.rec_file.specs.declared.picks.Pick.{Pick}
 use Rattle.rec_file.specs.declared.refusals.Refusal.{Refusal}
-use Rattle.rec_file.specs.declared.shapes.Shape.{Shape}
+use Rattle.dap_accessed.specs.declared.asked.Asked.{Asked}
 use Rattle.rec_file.specs.Files.{records_from}
 use Rattle.rec_file.specs.Acts.{StreamVal, get_record, act}
 use Rattle.dap_accessed.specs.Setup.{lacks}
@@ -56,11 +56,11 @@ module _ (scene : Scene) where
   opening own fac None = λ e. cc
   opening own fac (Some at) = either (lacks own.most (rights_to_open fac)) _ _ (λ e. cc) (λ e. cc)
 
-  making : (name : List ℕ) (fac : ℕ) (shape : Option Shape) → Answers (make_file scene name fac shape)
+  making : (name : List ℕ) (fac : ℕ) (shape : Option Asked) → Answers (make_file scene name fac shape)
   making name fac None = λ e. cc
   making name fac (Some shape) = λ e. cc
 
-  creating : (own : ServerSetup) (name : List ℕ) (fac : ℕ) (at : Option ℕ) (shape : Option Shape) → Answers (create_file own scene name fac at shape)
+  creating : (own : ServerSetup) (name : List ℕ) (fac : ℕ) (at : Option ℕ) (shape : Option Asked) → Answers (create_file own scene name fac at shape)
   creating own name fac (Some at) shape = λ e. cc
   creating own name fac None shape = either (lacks own.most (rights_to_create fac)) _ _ (λ e. cc) (making name fac shape)
 
@@ -68,7 +68,7 @@ module _ (scene : Scene) where
   erasing own None = λ e. cc
   erasing own (Some at) = either (lacks own.most rights_to_erase) _ _ (λ e. cc) (λ e. cc)
 
-  accessing : (own : ServerSetup) (a : AccessFields) (shape : Option Shape) → Answers (access_file own scene a shape)
+  accessing : (own : ServerSetup) (a : AccessFields) (shape : Option Asked) → Answers (access_file own scene a shape)
   accessing own a shape =
       let found = index_by own.names a.name scene.files in
       either (a.func == codes.accfunc.opening) _ _ (opening own a.fac found)
@@ -184,27 +184,27 @@ in_store : (d : Bool) (o : OpenFile) (s : StreamVal) (n : ℕ) → d ≡ true �
 in_store true o s n e = refl
 in_store false o s n e = cc
 
-drops-at : (state : ServerState) (past : List Group) → is_dropping past ≡ true → is_storing (phase_at state (looked_back state past)) ≡ false
-drops-at Fresh past e = refl
-drops-at Ready past e = refl
-drops-at (Opened o) past e = refl
-drops-at (Connected o s) past e = refl
-drops-at (Store o s) past e = in_store (is_dropping past) o s (ordinal_so_far past) e
-drops-at (Stopped o s) past e = refl
+drops-at : (full : Bool) (state : ServerState) (past : List Group) → is_dropping past ≡ true → is_storing (phase_at state (looked_back full state past)) ≡ false
+drops-at full Fresh past e = refl
+drops-at full Ready past e = refl
+drops-at full (Opened o) past e = refl
+drops-at full (Connected o s) past e = refl
+drops-at full (Store o s) past e = in_store (is_dropping past) o s (ordinal_so_far past) e
+drops-at full (Stopped o s) past e = refl
 
 drops-within : (change : Change) (o : OpenFile) (s : StreamVal) → is_storing (phase_within change o s) ≡ false
 drops-within (Putting key) o s = refl
 drops-within Updating o s = refl
 
-drops : (standing : Standing) (begun : Option Begun) → is_dropping standing.past ≡ true → is_storing (phase_of standing begun) ≡ false
-drops standing None e = drops-at standing.state standing.past e
-drops standing (Some b) e = drops-within b.change b.opened b.stream
+drops : (full : Bool) (standing : Standing) (begun : Option Begun) → is_dropping standing.past ≡ true → is_storing (phase_of full standing begun) ≡ false
+drops full standing None e = drops-at full standing.state standing.past e
+drops full standing (Some b) e = drops-within b.change b.opened b.stream
 
 pub silent-in : (old : Present) (c : GroupedItems) (item : Item) → IsIn c old → IsSilentIn old.setup c item → is_silent old.phase item ≡ true
 silent-in old c item h none =
     silent old.phase old item (answers-in old item c h ∙ none.0)
-    (λ f. ap (λ (p : Present). is_storing p.phase) h ∙ drops c.standing c.begun (none.1 f))
+    (λ f. ap (λ (p : Present). is_storing p.phase) h ∙ drops old.setup.full c.standing c.begun (none.1 f))
 
 pub silent-is : (old : Present) (first : Files) (items : List Item) (item : Item) → StandsAfter first items old → IsSilent old.setup first items item → is_silent old.phase item ≡ true
 silent-is old first items item h none =
-    silent old.phase old item (answers-are old item first items h ∙ none.0) (λ f. ap (λ (p : Present). is_storing p.phase) h ∙ (let c = stands_after old.setup first items in drops c.standing c.begun (none.1 f)))
+    silent old.phase old item (answers-are old item first items h ∙ none.0) (λ f. ap (λ (p : Present). is_storing p.phase) h ∙ (let c = stands_after old.setup first items in drops old.setup.full c.standing c.begun (none.1 f)))

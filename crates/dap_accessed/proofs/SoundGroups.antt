@@ -1,32 +1,25 @@
 -- Every group leaves an end sound.
-use Rattle.std.proofs.Common.{◌≡◌, ℕ, ◌+◌, ◌<◌, ◌≤◌, Bool, true, false, List, [], ◌∷◌, length, Option, Some, None, Result, Ok, Err, refl, ap, subst, inl, inr, arith, lit≤}
+use Rattle.std.proofs.Common.{◌≡◌, ℕ, ◌+◌, ◌<◌, ◌≤◌, Bool, true, false, List, [], ◌∷◌, length, Option, Some, None, Result, Ok, Err, refl, subst, inl, inr, arith, lit≤}
 use Rattle.dap_accessed.specs.Setup.{lacks}
 use Rattle.dap_accessed.specs.declared.setup.Names.{Names}
 use Rattle.dap_accessed.specs.declared.setup.ServerSetup.{ServerSetup}
-use Rattle.std.specs.Prelude.{IfSome, IsTrue, bytes_eq, if◌then◌else◌}
-use Rattle.std.specs.FinMap as map
+use Rattle.std.specs.Prelude.{IfSome, bytes_eq, if◌then◌else◌}
 use Rattle.dap_msg.specs.declared.message.Message.{Message}
 use Rattle.dap_msg.specs.declared.message.AccessFields.{AccessFields}
 use Rattle.dap_msg.specs.declared.message.ControlFields.{ControlFields}
 use Rattle.dap_msg.specs.declared.message.Message.TheVariants.{Config, Access, Control, Contran, Accomp, Filedata}
-use Rattle.dap_msg.specs.BothEnds.{message_limit, max_nsp_message, number_of}
+use Rattle.dap_msg.specs.BothEnds.{message_limit, max_nsp_message}
 use Rattle.dap_msg.specs.declared.items.Item.{Item}
 use Rattle.dap_msg.specs.declared.items.Item.TheVariants.{Whole, Malformed}
-use Rattle.rec_file.specs.declared.shapes.Shape.{Shape}
+use Rattle.dap_accessed.specs.declared.asked.Asked.{Asked}
+use Rattle.dap_accessed.specs.Asked.{made_file}
 use Rattle.rec_file.specs.declared.refusals.Refusal.{Refusal}
 use Rattle.rec_file.specs.declared.picks.Pick.{Pick}
-use Rattle.std.specs.Prelude.{◌&&◌, nat_le}
+use Rattle.std.specs.Prelude.{◌&&◌}
 use Rattle.std.proofs.Common.{cond}
 use Rattle.std.proofs.lemmas.Bool.{cases_lt, lt-ltb, le-ltb}
 use Rattle.std.proofs.lemmas.Bool.Decides.{nat_tests}
 use Rattle.std.proofs.lemmas.List.{length-append}
-use Rattle.dap_msg.specs.declared.message.Attributes.{Attributes}
-use Rattle.rec_file.specs.declared.shapes.Org.{Org}
-use Rattle.rec_file.specs.declared.shapes.Org.TheVariants.{Seq, Rel}
-use Rattle.rec_file.specs.declared.shapes.Format.{Format}
-use Rattle.rec_file.specs.Limits.{max_record, max_record_number}
-use Rattle.rec_file.specs.Shapes.{is_shape, has_length, kept_mrn, org_of_code, format_of_code, shape_of as shape_asked}
-use Rattle.std.specs.Prelude.{unwrap_or}
 use Rattle.rec_file.specs.Files.{FileVal, IsFile, records_from}
 use Rattle.rec_file.specs.Acts.{Operation, StreamVal, act, get_record, put_record, update_record, delete_record}
 use Rattle.dap_accessed.specs.declared.phase.OpenFile.{OpenFile}
@@ -37,7 +30,7 @@ use Rattle.std.specs.List.{prefix_len, remove}
 use Rattle.dap_msg.specs.Codes as codes
 use Rattle.dap_accessed.specs.Replies.{bare_status}
 use Rattle.dap_accessed.specs.Standing.{Files, index_of, index_by, index_to_erase, with_file, the_file, ServerState, Fresh, Ready, Opened, Connected, Store, Stopped, Group, Standing, Scene, Effect, start, enters}
-use Rattle.dap_accessed.specs.Past.{asked_shape, kept_attributes, is_dropping, ordinal_so_far}
+use Rattle.dap_accessed.specs.Past.{asked_file, kept_attributes, is_dropping, ordinal_so_far}
 use Rattle.dap_accessed.specs.Accesses.{rights_to_create, rights_to_erase, erase_file, rights_to_open, make_file, open_file, create_file, access_file, end_stream, complete}
 use Rattle.dap_accessed.specs.Records.{at_number, verb_of, get_pick, got, record_got, effect_of_outcome, Change, Putting, Updating, effect_of_change, fits_limit}
 use Rattle.dap_accessed.specs.Transfers.{fetch, fetch_ends, continue_fetch, store_one}
@@ -47,28 +40,11 @@ use Rattle.dap_accessed.specs.Groups.{after_two}
 use Rattle.dap_accessed.specs.Sound.{AreFiles, IsOpenAt, IsSoundAt, IsSound}
 use Rattle.dap_accessed.specs.Groups.{next_group, more_after}
 use Rattle.dap_accessed.proofs.Tables.{length-with}
-use Rattle.dap_accessed.proofs.Kept.{act-keeps, both}
+use Rattle.dap_accessed.proofs.Asking.{Good, good-file}
+use Rattle.dap_accessed.proofs.Kept.{act-keeps}
 use Rattle.dap_accessed.proofs.SoundTables.{file-there, files-with, files-more, all-without, distinct-without, none_exact}
 
 -- ---- Shapes, limits and states.
-
--- the shape that attributes ask for is one that a file may have
-abbrev pub Good : Option Shape → Type 0
-Good shape = IfSome shape (λ s. IsTrue (is_shape s))
-
-allowed : (org : Org) (format : Format) (mrs mrn : ℕ) (b : Bool) → (has_length format mrs && nat_le mrs max_record && nat_le mrn max_record_number) ≡ b
-    → Good (if b then Some (record { org = org; format = format; mrs = mrs; mrn = kept_mrn org mrn }) else None)
-allowed org format mrs mrn false e = tt
-allowed Seq format mrs mrn true e = ap (λ b. b && true && true) (both (has_length format mrs && nat_le mrs max_record) (nat_le mrn max_record_number) e).0
-allowed Rel format mrs mrn true e = ap (λ b. b && true) e
-
-good-of : (org : Option Org) (format : Option Format) (mrs mrn : ℕ) → Good (shape_asked org format mrs mrn)
-good-of None format mrs mrn = tt
-good-of (Some org) None mrs mrn = tt
-good-of (Some org) (Some format) mrs mrn = allowed org format mrs mrn _ refl
-
-pub good-shape : (a : Attributes) → Good (asked_shape a)
-good-shape a = good-of (org_of_code (unwrap_or a.org 0)) (format_of_code (unwrap_or a.rfm 2)) (unwrap_or a.mrs 0) (number_of (unwrap_or a.mrn []))
 
 limit-most : (bufsiz : ℕ) → message_limit bufsiz ≤ max_nsp_message
 limit-most bufsiz =
@@ -141,17 +117,17 @@ module _ (scene : Scene) (files : AreFiles scene.files) (least : 64 ≤ scene.li
   opening own fac None h = entering Ready tt
   opening own fac (Some at) h = either (lacks own.most (rights_to_open fac)) _ _ (entering Ready tt) (entering (Opened _) h)
 
-  making : (name : List ℕ) (fac : ℕ) (shape : Option Shape) → index_of name scene.files ≡ None → Good shape → Leaves (make_file scene name fac shape)
+  making : (name : List ℕ) (fac : ℕ) (shape : Option Asked) → index_of name scene.files ≡ None → Good shape → Leaves (make_file scene name fac shape)
   making name fac None e g = entering Ready tt
-  making name fac (Some shape) e good =
+  making name fac (Some asked) e good =
       record {
-        files = files-more scene.files name shape files good e;
-        opened = omega (arith, length-append scene.files ((name, record { shape = shape; records = map.empty }) ∷ []));
+        files = files-more scene.files name asked files good e;
+        opened = omega (arith, length-append scene.files ((name, made_file asked) ∷ []));
         least = least;
         most = most;
       }
 
-  creating : (own : ServerSetup) (name : List ℕ) (fac : ℕ) (at : Option ℕ) (shape : Option Shape) → index_by own.names name scene.files ≡ at → Good shape → Leaves (create_file own scene name fac at shape)
+  creating : (own : ServerSetup) (name : List ℕ) (fac : ℕ) (at : Option ℕ) (shape : Option Asked) → index_by own.names name scene.files ≡ at → Good shape → Leaves (create_file own scene name fac at shape)
   creating own name fac (Some at) shape e g = entering Ready tt
   creating own name fac None shape e g =
       either (lacks own.most (rights_to_create fac)) _ _ (entering Ready tt) (making name fac shape (none_exact own.names name scene.files e) g)
@@ -163,7 +139,7 @@ module _ (scene : Scene) (files : AreFiles scene.files) (least : 64 ≤ scene.li
   erasing own None = entering Ready tt
   erasing own (Some at) = either (lacks own.most rights_to_erase) _ _ (entering Ready tt) (without at)
 
-  accessing : (own : ServerSetup) (a : AccessFields) (shape : Option Shape) → Good shape → Leaves (access_file own scene a shape)
+  accessing : (own : ServerSetup) (a : AccessFields) (shape : Option Asked) → Good shape → Leaves (access_file own scene a shape)
   accessing own a shape g =
       let found = index_by own.names a.name scene.files in
       either (a.func == codes.accfunc.opening) _ _ (opening own a.fac found (index-within own.names a.name scene.files))
@@ -254,7 +230,7 @@ module _ (scene : Scene) (files : AreFiles scene.files) (least : 64 ≤ scene.li
   of-message : (own : ServerSetup) (past : List Group) (state : ServerState) → IsOpenAt scene.files state → (m : Message) → IsSoundTurn scene (turn_in own scene past state m)
   of-message own past Fresh h (Config c) = configuring (is_too_small c.bufsiz) c.bufsiz refl own
   of-message own past Fresh h m = entering Fresh tt
-  of-message own past Ready h (Access a) = accessing own a (asked_shape (kept_attributes past)) (good-shape (kept_attributes past))
+  of-message own past Ready h (Access a) = accessing own a (asked_file own.full (kept_attributes past)) (good-file own.full (kept_attributes past))
   of-message own past Ready h m = entering Ready tt
   of-message own past (Opened o) h (Control c) = opened-control o h (verb_of c)
   of-message own past (Opened o) h (Accomp c) = completed-soundly c.func o (Opened o) h h

@@ -1,17 +1,17 @@
 -- What a change of the table keeps.
 use Rattle.std.proofs.Common.{◌≡◌, ℕ, zero, suc, ◌+◌, ◌<◌, ◌≤◌, Bool, not, cond, List, [], ◌∷◌, ◌++◌, length, Some, None, refl, ap, inl, inr, arith}
-use Rattle.std.specs.Prelude.{bytes_eq, true, false, IsTrue}
+use Rattle.std.specs.Prelude.{bytes_eq, true, false}
 use Rattle.std.specs.List.{position, prefix_len, AllByRecursion, IsDistinct, remove}
 use Rattle.std.proofs.lemmas.Bool.{cases_Bool, cases_lt, lt-ltb, le-ltb}
 use Rattle.std.proofs.lemmas.Slice.Eq.{bytes_eq-Decides}
 use Rattle.file_names.specs.Folds.{fold}
-use Rattle.rec_file.specs.declared.shapes.Shape.{Shape}
-use Rattle.rec_file.specs.Shapes.{is_shape}
+use Rattle.dap_accessed.specs.declared.asked.Asked.{Asked}
+use Rattle.dap_accessed.specs.Asked.{made_file, IsAsked}
 use Rattle.rec_file.specs.Files.{FileVal, IsFile}
-use Rattle.rec_file.proofs.ForCallers.{IsFile-empty}
+use Rattle.rec_file.proofs.ForCallers.{IsFile-new}
 use Rattle.dap_accessed.specs.declared.setup.Names.{Names}
 use Rattle.dap_accessed.specs.declared.setup.Names.TheVariants.{Exact, Folded}
-use Rattle.dap_accessed.specs.Standing.{Files, new_file, index_of, index_by, file_at, with_file}
+use Rattle.dap_accessed.specs.Standing.{Files, index_of, index_by, file_at, with_file}
 use Rattle.dap_accessed.specs.Sound.{AreFiles}
 
 abbrev pub AllFiles : Files → Type 0
@@ -125,9 +125,9 @@ new-name name files none =
 pub files-with : (files : Files) (at : ℕ) (file : FileVal) → AreFiles files → IsFile file → AreFiles (with_file at file files)
 files-with files at file h k = record { files = all-with files at file h.files k; distinct = distinct-with bytes_eq files at file h.distinct }
 
-pub files-more : (files : Files) (name : List ℕ) (shape : Shape) → AreFiles files → IsTrue (is_shape shape) → index_of name files ≡ None → AreFiles (files ++ (name, new_file shape) ∷ [])
-files-more files name shape h good none =
-    record { files = all-more files _ h.files (IsFile-empty shape good); distinct = distinct-more bytes_eq files _ h.distinct (new-name name files none) }
+pub files-more : (files : Files) (name : List ℕ) (asked : Asked) → AreFiles files → IsAsked asked → index_of name files ≡ None → AreFiles (files ++ (name, made_file asked) ∷ [])
+files-more files name asked h good none =
+    record { files = all-more files _ h.files (IsFile-new asked.shape asked.look good.shape good.look); distinct = distinct-more bytes_eq files _ h.distinct (new-name name files none) }
 
 -- ---- A name that no file has by its fold is that of no file.
 

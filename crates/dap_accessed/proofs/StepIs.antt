@@ -10,53 +10,60 @@ use Rattle.dap_msg.specs.declared.message.Message.TheVariants.{Config, Attrib, A
 use Rattle.dap_msg.specs.declared.items.Item.{Item}
 use Rattle.dap_msg.specs.declared.items.Item.TheVariants.{Whole, Malformed}
 use Rattle.dap_msg.specs.BothEnds.{no_attributes}
-use Rattle.rec_file.specs.declared.shapes.Shape.{Shape}
+use Rattle.dap_accessed.specs.declared.asked.Asked.{Asked}
 use Rattle.rec_file.specs.Acts.{StreamVal}
 use Rattle.dap_accessed.specs.declared.phase.OpenFile.{OpenFile}
 use Rattle.dap_accessed.specs.declared.phase.Phase.{Phase}
 use Rattle.dap_accessed.specs.declared.phase.Phase.TheVariants as phases
 use Rattle.dap_accessed.specs.Standing.{Files, Scene, ServerState, Group, Standing, Effect, Fresh, Ready, Opened, Connected, Store, Stopped}
-use Rattle.dap_accessed.specs.Past.{asked_shape, kept_attributes, is_dropping, ordinal_so_far, this_store, is_skip, is_ready, is_store, is_access, is_filedata, attributes_in, since_access, was_refused, max_ordinal, next_ordinal}
+use Rattle.dap_accessed.specs.Past.{asked_file, kept_attributes, is_dropping, ordinal_so_far, this_store, is_skip, is_ready, is_store, is_access, is_filedata, attributes_in, since_access, was_refused, max_ordinal, next_ordinal}
 use Rattle.dap_accessed.specs.Records.{Change, Putting, Updating}
 use Rattle.dap_accessed.specs.Effects.{Begun, Turn, Does, BeginsGroup, told, turn_of, effect_with}
 use Rattle.dap_accessed.specs.Groups.{GroupedItems, over, answers_added, stands_after, next_group, next_answers, after_item, answers_of}
 use Rattle.dap_accessed.specs.Present.{Present, Memory, looked_back, present_of, phase_at, StandsAfter}
 use Rattle.dap_accessed.specs.Sessions.{IsIn}
-use Rattle.dap_accessed.specs.Inner.Moves.{Move, move, move_in, turn_by, between, turns, settles, remembers, plain_memory, store_memory, scene_in, drops_next, ordinal_next}
+use Rattle.dap_accessed.specs.Asked.{asked_fully}
+use Rattle.dap_accessed.specs.Inner.Moves.{plainly_asked, Move, move, move_in, turn_by, between, turns, settles, remembers, plain_memory, store_memory, scene_in, drops_next, ordinal_next}
 use Rattle.dap_accessed.proofs.Cuts.{present-more, added-is}
 use Rattle.dap_accessed.proofs.Opens.{store_phase, store-moves}
 
 -- ---- What counts of the past after a group.
 
-module _ (past : List Group) where
+-- without Attributes a server keeps the same, full or not
+pub none_asked : (full : Bool) → asked_file full no_attributes ≡ plainly_asked
+unfolding asked_fully
+none_asked true = refl
+none_asked false = refl
+
+module _ (full : Bool) (past : List Group) where
   abbrev group_of : ServerState → Item → List Message → Group
   group_of state item answers = record { state = state; first = item; answers = answers }
 
   -- the groups in Ready since an Access, with one more
-  shape-more : (item : Item) (answers : List Message) →
-      asked_shape (kept_attributes (group_of Ready item answers ∷ past))
-      ≡ asked_shape (unwrap_or (slice_get (filter_map (λ (g : Group). attributes_in g.first) (if not (is_access item) then group_of Ready item answers ∷ since_access past else [])) 0) no_attributes)
-  shape-more item answers =
-      ap (λ (l : List Group). asked_shape (unwrap_or (slice_get (filter_map (λ (g : Group). attributes_in g.first) l) 0) no_attributes))
+  asked-more : (item : Item) (answers : List Message) →
+      asked_file full (kept_attributes (group_of Ready item answers ∷ past))
+      ≡ asked_file full (unwrap_or (slice_get (filter_map (λ (g : Group). attributes_in g.first) (if not (is_access item) then group_of Ready item answers ∷ since_access past else [])) 0) no_attributes)
+  asked-more item answers =
+      ap (λ (l : List Group). asked_file full (unwrap_or (slice_get (filter_map (λ (g : Group). attributes_in g.first) l) 0) no_attributes))
       (take_while-cons (λ (g : Group). not (is_access g.first)) (group_of Ready item answers) (filter (λ (g : Group). is_ready g.state) past))
 
-  shape-kept : (state : ServerState) (item : Item) (answers : List Message) → asked_shape (kept_attributes (group_of state item answers ∷ past)) ≡ (remembers (looked_back state past) state item answers).shape
-  shape-kept Fresh item answers = refl
-  shape-kept (Opened o) item answers = refl
-  shape-kept (Connected o s) item answers = refl
-  shape-kept (Store o s) item answers = refl
-  shape-kept (Stopped o s) item answers = refl
-  shape-kept Ready (Malformed fault) answers = shape-more (Malformed fault) answers
-  shape-kept Ready (Whole (Config c)) answers = shape-more (Whole (Config c)) answers
-  shape-kept Ready (Whole (Attrib a)) answers = shape-more (Whole (Attrib a)) answers
-  shape-kept Ready (Whole (Access a)) answers = shape-more (Whole (Access a)) answers
-  shape-kept Ready (Whole (Control c)) answers = shape-more (Whole (Control c)) answers
-  shape-kept Ready (Whole (Contran f)) answers = shape-more (Whole (Contran f)) answers
-  shape-kept Ready (Whole Ack) answers = shape-more (Whole Ack) answers
-  shape-kept Ready (Whole (Accomp c)) answers = shape-more (Whole (Accomp c)) answers
-  shape-kept Ready (Whole (Filedata r b)) answers = shape-more (Whole (Filedata r b)) answers
-  shape-kept Ready (Whole (Status s)) answers = shape-more (Whole (Status s)) answers
-  shape-kept Ready (Whole (Other n b)) answers = shape-more (Whole (Other n b)) answers
+  asked-kept : (state : ServerState) (item : Item) (answers : List Message) → asked_file full (kept_attributes (group_of state item answers ∷ past)) ≡ (remembers full (looked_back full state past) state item answers).asked
+  asked-kept Fresh item answers = refl
+  asked-kept (Opened o) item answers = refl
+  asked-kept (Connected o s) item answers = refl
+  asked-kept (Store o s) item answers = refl
+  asked-kept (Stopped o s) item answers = refl
+  asked-kept Ready (Malformed fault) answers = asked-more (Malformed fault) answers
+  asked-kept Ready (Whole (Config c)) answers = asked-more (Whole (Config c)) answers
+  asked-kept Ready (Whole (Attrib a)) answers = asked-more (Whole (Attrib a)) answers
+  asked-kept Ready (Whole (Access a)) answers = asked-more (Whole (Access a)) answers ∙ none_asked full
+  asked-kept Ready (Whole (Control c)) answers = asked-more (Whole (Control c)) answers
+  asked-kept Ready (Whole (Contran f)) answers = asked-more (Whole (Contran f)) answers
+  asked-kept Ready (Whole Ack) answers = asked-more (Whole Ack) answers
+  asked-kept Ready (Whole (Accomp c)) answers = asked-more (Whole (Accomp c)) answers
+  asked-kept Ready (Whole (Filedata r b)) answers = asked-more (Whole (Filedata r b)) answers
+  asked-kept Ready (Whole (Status s)) answers = asked-more (Whole (Status s)) answers
+  asked-kept Ready (Whole (Other n b)) answers = asked-more (Whole (Other n b)) answers
 
   or-false : (b : Bool) → (b || false) ≡ b
   or-false true = refl
@@ -114,7 +121,7 @@ module _ (past : List Group) where
 
   -- the phase that is entered in a Store
   store-entered : (state : ServerState) (item : Item) (answers : List Message) (o : OpenFile) (s : StreamVal) →
-      phase_at (Store o s) (looked_back (Store o s) (group_of state item answers ∷ past)) ≡ phase_at (Store o s) (remembers (looked_back state past) state item answers)
+      phase_at (Store o s) (looked_back full (Store o s) (group_of state item answers ∷ past)) ≡ phase_at (Store o s) (remembers full (looked_back full state past) state item answers)
   store-entered Fresh item answers o s = refl
   store-entered Ready item answers o s = refl
   store-entered (Opened p) item answers o s = refl
@@ -125,7 +132,7 @@ module _ (past : List Group) where
       ∙ ap (λ n. store_phase (drops_next (is_dropping past) item answers) o s n) (store-counts p t item answers)
 
   entered : (q state : ServerState) (item : Item) (answers : List Message) →
-      phase_at q (looked_back q (group_of state item answers ∷ past)) ≡ phase_at q (remembers (looked_back state past) state item answers)
+      phase_at q (looked_back full q (group_of state item answers ∷ past)) ≡ phase_at q (remembers full (looked_back full state past) state item answers)
   entered Fresh state item answers = refl
   entered Ready state item answers = refl
   entered (Opened o) state item answers = refl
@@ -144,10 +151,10 @@ module _ (own : ServerSetup) (scene : Scene) (past : List Group) where
 
   -- after a group in a state that began with this item and had this effect
   after-group : (p : Present) (s : Standing) (state : ServerState) (item : Item) (e : Effect) → p.own ≡ own.identity.bufsiz → p.setup ≡ own → s.past ≡ past →
-      present_of own (record { standing = over s state item e; begun = None }) ≡ (settles p (remembers (looked_back state past) state item e.answers) e).present
+      present_of own (record { standing = over s state item e; begun = None }) ≡ (settles p (remembers own.full (looked_back own.full state past) state item e.answers) e).present
   after-group p s state item e b o h = rw (b, o, h)
-      (ap (λ (k : Option Shape). let q : Present = record { own = own.identity.bufsiz; setup = own; limit = e.scene.limit; files = e.scene.files; kept = k; phase = phase_at e.state (looked_back e.state (group_of past state item e.answers ∷ past)) } in q) (shape-kept past state item e.answers)
-      ∙ ap (λ (f : Phase). let q : Present = record { own = own.identity.bufsiz; setup = own; limit = e.scene.limit; files = e.scene.files; kept = (remembers (looked_back state past) state item e.answers).shape; phase = f } in q) (entered past e.state state item e.answers))
+      (ap (λ (k : Option Asked). let q : Present = record { own = own.identity.bufsiz; setup = own; limit = e.scene.limit; files = e.scene.files; kept = k; phase = phase_at e.state (looked_back own.full e.state (group_of own.full past state item e.answers ∷ past)) } in q) (asked-kept own.full past state item e.answers)
+      ∙ ap (λ (f : Phase). let q : Present = record { own = own.identity.bufsiz; setup = own; limit = e.scene.limit; files = e.scene.files; kept = (remembers own.full (looked_back own.full state past) state item e.answers).asked; phase = f } in q) (entered own.full past e.state state item e.answers))
 
   -- what an end keeps, and the answers, are those of the move
   pub record Agrees (step : Move) (present : Present) (answers : List Message) : Type 0 where
@@ -155,7 +162,7 @@ module _ (own : ServerSetup) (scene : Scene) (past : List Group) where
     pub same_answers : answers ≡ step.answers
 
   turned : (state : ServerState) (item : Item) (t : Turn) →
-      Agrees (turns t (kept_at state) (looked_back state past) state item) (present_of own (next_group own (at state) item t)) (next_answers own t)
+      Agrees (turns t (kept_at state) (looked_back own.full state past) state item) (present_of own (next_group own (at state) item t)) (next_answers own t)
   turned state item (Does effect) = record { same_present = after-group (kept_at state) (at state) state item (told own effect) refl refl refl; same_answers = refl }
   turned state item (BeginsGroup begun) = record { same_present = refl; same_answers = refl }
 
@@ -164,7 +171,7 @@ module _ (own : ServerSetup) (scene : Scene) (past : List Group) where
       Agrees step (present_of own (next_group own (at state) item (turn_of own (at state) item))) (next_answers own (turn_of own (at state) item))
 
   -- all that counts of the past was looked back for
-  turn-is : (state : ServerState) (item : Item) → turn_by own scene (looked_back state past) state item ≡ turn_of own (at state) item
+  turn-is : (state : ServerState) (item : Item) → turn_by own scene (looked_back own.full state past) state item ≡ turn_of own (at state) item
   turn-is state (Malformed fault) = refl
   turn-is Fresh (Whole message) = refl
   turn-is Ready (Whole message) = refl
@@ -173,9 +180,9 @@ module _ (own : ServerSetup) (scene : Scene) (past : List Group) where
   turn-is (Store o s) (Whole message) = refl
   turn-is (Stopped o s) (Whole message) = refl
 
-  follows : (state : ServerState) (item : Item) → Follows state item (between (kept_at state) (looked_back state past) state item)
+  follows : (state : ServerState) (item : Item) → Follows state item (between (kept_at state) (looked_back own.full state past) state item)
   follows state item =
-      subst (λ (t : Turn). Follows state item (turns t (kept_at state) (looked_back state past) state item)) (sym (turn-is state item))
+      subst (λ (t : Turn). Follows state item (turns t (kept_at state) (looked_back own.full state past) state item)) (sym (turn-is state item))
       (turned state item (turn_of own (at state) item))
 
   pub one-follows : (state : ServerState) (item : Item) → Follows state item (move (kept_at state) item)
@@ -193,12 +200,12 @@ module _ (own : ServerSetup) (scene : Scene) (past : List Group) where
       Agrees (move (present_of own c) item) (present_of own (after_item own c item)) (answers_of own c item)
   two-follows state o s (Putting key) first item =
       record {
-        same_present = after-group (record { own = own.identity.bufsiz; setup = own; limit = scene.limit; files = scene.files; kept = asked_shape (kept_attributes past); phase = phases.PutDue o s key }) (at state) (Connected o s) first (told own (effect_with (Putting key) scene o s item)) refl refl refl;
+        same_present = after-group (record { own = own.identity.bufsiz; setup = own; limit = scene.limit; files = scene.files; kept = asked_file own.full (kept_attributes past); phase = phases.PutDue o s key }) (at state) (Connected o s) first (told own (effect_with (Putting key) scene o s item)) refl refl refl;
         same_answers = refl;
       }
   two-follows state o s Updating first item =
       record {
-        same_present = after-group (record { own = own.identity.bufsiz; setup = own; limit = scene.limit; files = scene.files; kept = asked_shape (kept_attributes past); phase = phases.UpdateDue o s }) (at state) (Connected o s) first (told own (effect_with Updating scene o s item)) refl refl refl;
+        same_present = after-group (record { own = own.identity.bufsiz; setup = own; limit = scene.limit; files = scene.files; kept = asked_file own.full (kept_attributes past); phase = phases.UpdateDue o s }) (at state) (Connected o s) first (told own (effect_with Updating scene o s item)) refl refl refl;
         same_answers = refl;
       }
 
@@ -264,5 +271,5 @@ pub answers-in : (old : Present) (item : Item) (c : GroupedItems) → IsIn c old
 answers-in old item c h = ap (λ (p : Present). (move p item).answers) h ∙ sym (step-is old.setup c.standing c.begun item).same_answers
 
 -- an Access uses up the attributes
-pub access-keeps : (past : List Group) (a : AccessFields) (answers : List Message) → asked_shape (kept_attributes (record { state = Ready; first = Whole (Access a); answers = answers } ∷ past)) ≡ asked_shape no_attributes
-access-keeps past a answers = shape-kept past Ready (Whole (Access a)) answers
+pub access-keeps : (full : Bool) (past : List Group) (a : AccessFields) (answers : List Message) → asked_file full (kept_attributes (record { state = Ready; first = Whole (Access a); answers = answers } ∷ past)) ≡ plainly_asked
+access-keeps full past a answers = asked-kept full past Ready (Whole (Access a)) answers

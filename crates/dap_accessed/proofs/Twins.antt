@@ -9,7 +9,7 @@ use Rattle.dap_msg.specs.declared.message.Message.{Message}
 use Rattle.dap_msg.specs.declared.message.Message.TheVariants.{Config, Access}
 use Rattle.dap_msg.specs.declared.items.Item.{Item}
 use Rattle.dap_msg.specs.declared.items.Item.TheVariants.{Whole, Malformed}
-use Rattle.rec_file.specs.declared.shapes.Shape.{Shape}
+use Rattle.dap_accessed.specs.declared.asked.Asked.{Asked}
 use Rattle.rec_file.specs.declared.picks.Rights.{Rights}
 use Rattle.dap_accessed.specs.declared.setup.Names.{Names}
 use Rattle.dap_accessed.specs.declared.setup.ServerSetup.{ServerSetup}
@@ -59,25 +59,25 @@ module _ (identity : Configuration) where
   follows-turn (BeginsGroup b) p memory state item = record { present = refl; answers = tt }
 
   -- where nothing is said of the server, its identity doesn't count
-  ready-same : (own : ServerSetup) (scene : Scene) (shape : Option Shape) (m : Message) → effect_ready (saying identity own) scene shape m ≡ effect_ready own scene shape m
-  ready-same own scene shape (Access a) = refl
-  ready-same own scene shape m = refl
+  ready-same : (own : ServerSetup) (scene : Scene) (asked : Option Asked) (m : Message) → effect_ready (saying identity own) scene asked m ≡ effect_ready own scene asked m
+  ready-same own scene asked (Access a) = refl
+  ready-same own scene asked m = refl
 
   ready-turn : (own : ServerSetup) (scene : Scene) (memory : Memory) (item : Item) → turn_by (saying identity own) scene memory Ready item ≡ turn_by own scene memory Ready item
   ready-turn own scene memory (Malformed fault) = refl
-  ready-turn own scene memory (Whole m) = ap Does (ready-same own scene memory.shape m)
+  ready-turn own scene memory (Whole m) = ap Does (ready-same own scene memory.asked m)
 
-  configured : (p : Present) (shape : Option Shape) (small : Bool) (bufsiz : ℕ) (item : Item) → let memory = plain_memory shape in let scene = scene_in p in
+  configured : (p : Present) (asked : Option Asked) (small : Bool) (bufsiz : ℕ) (item : Item) → let memory = plain_memory asked in let scene = scene_in p in
       let wrong : Effect = enters scene Fresh (bare_status (codes.invalid codes.types.config) ∷ []) in
       Follows p (turns (Does (if small then wrong else enters (record scene { limit = message_limit bufsiz }) Ready (Config p.setup.identity ∷ []))) p memory Fresh item)
       (turns (Does (if small then wrong else enters (record scene { limit = message_limit bufsiz }) Ready (Config identity ∷ []))) (twin p) memory Fresh item)
-  configured p shape true bufsiz item = record { present = refl; answers = (inl refl, tt) }
-  configured p shape false bufsiz item = record { present = refl; answers = (inr (refl, refl), tt) }
+  configured p asked true bufsiz item = record { present = refl; answers = (inl refl, tt) }
+  configured p asked false bufsiz item = record { present = refl; answers = (inr (refl, refl), tt) }
 
-  fresh-follows : (p : Present) (shape : Option Shape) (item : Item) → Follows p (between p (plain_memory shape) Fresh item) (between (twin p) (plain_memory shape) Fresh item)
-  fresh-follows p shape (Malformed fault) = follows-turn (turn_by p.setup (scene_in p) (plain_memory shape) Fresh (Malformed fault)) p (plain_memory shape) Fresh (Malformed fault)
-  fresh-follows p shape (Whole (Config c)) = configured p shape (is_too_small c.bufsiz) c.bufsiz (Whole (Config c))
-  fresh-follows p shape (Whole m) = follows-turn (Does (effect_fresh p.setup (scene_in p) m)) p (plain_memory shape) Fresh (Whole m)
+  fresh-follows : (p : Present) (asked : Option Asked) (item : Item) → Follows p (between p (plain_memory asked) Fresh item) (between (twin p) (plain_memory asked) Fresh item)
+  fresh-follows p asked (Malformed fault) = follows-turn (turn_by p.setup (scene_in p) (plain_memory asked) Fresh (Malformed fault)) p (plain_memory asked) Fresh (Malformed fault)
+  fresh-follows p asked (Whole (Config c)) = configured p asked (is_too_small c.bufsiz) c.bufsiz (Whole (Config c))
+  fresh-follows p asked (Whole m) = follows-turn (Does (effect_fresh p.setup (scene_in p) m)) p (plain_memory asked) Fresh (Whole m)
 
   ready-follows : (p : Present) (memory : Memory) (item : Item) → Follows p (between p memory Ready item) (between (twin p) memory Ready item)
   ready-follows p memory item =

@@ -4,13 +4,14 @@ use Rattle.std.specs.List.{remove}
 use Rattle.dap_msg.specs.Codes as codes
 use Rattle.dap_msg.specs.declared.message.Message.{Message}
 use Rattle.dap_msg.specs.declared.message.AccessFields.{AccessFields}
-use Rattle.rec_file.specs.declared.shapes.Shape.{Shape}
 use Rattle.rec_file.specs.declared.picks.Rights.{Rights}
 use Rattle.rec_file.specs.declared.refusals.Refusal.TheVariants.{NotPermitted}
+use Rattle.dap_accessed.specs.declared.asked.Asked.{Asked}
+use Rattle.dap_accessed.specs.Asked.{made_file}
 use Rattle.dap_accessed.specs.declared.phase.OpenFile.{OpenFile}
 use Rattle.dap_accessed.specs.declared.setup.ServerSetup.{ServerSetup}
 use Rattle.dap_accessed.specs.Setup.{lacks}
-use Rattle.dap_accessed.specs.Standing.{Files, new_file, index_by, index_to_erase, file_at, ServerState, Ready, Opened, Scene, Effect, enters}
+use Rattle.dap_accessed.specs.Standing.{Files, index_by, index_to_erase, file_at, ServerState, Ready, Opened, Scene, Effect, enters}
 use Rattle.dap_accessed.specs.Replies.{bare_status, reason_of, refused_access, opened_with, erased_with, complete_response}
 
 -- the operations that FAC allows
@@ -53,20 +54,20 @@ abbrev pub open_file : ServerSetup → Scene → (fac : ℕ) → Option ℕ → 
 open_file own scene fac None = refuse_access scene (bare_status codes.stscode.file_not_found)
 open_file own scene fac (Some at) =
     effect_if_permitted own (rights_to_open fac) scene (enters scene (Opened (record { at = at; is_new = false; rights = rights_of (fac_or fac codes.fac_bits.get) }))
-    (opened_with (file_at at scene.files).shape))
+    (opened_with (file_at at scene.files).shape (file_at at scene.files).look))
 
--- Makes a file of this name and shape, if the attributes were good. It comes after all others.
-abbrev pub make_file : Scene → (name : List ℕ) → (fac : ℕ) → Option Shape → Effect
+-- Makes a file of this name, as it was asked for, if the attributes were good. It comes after all others.
+abbrev pub make_file : Scene → (name : List ℕ) → (fac : ℕ) → Option Asked → Effect
 make_file scene name fac None = refuse_access scene (refused_access codes.reasons.bad_attributes)
-make_file scene name fac (Some shape) =
-    enters (record scene { files = scene.files ++ (name, new_file shape) ∷ [] })
+make_file scene name fac (Some asked) =
+    enters (record scene { files = scene.files ++ (name, made_file asked) ∷ [] })
     (Opened (record { at = length scene.files; is_new = true; rights = rights_of (fac_or fac codes.fac_bits.put) }))
-    (opened_with shape)
+    (opened_with asked.shape asked.look)
 
--- Makes a file of this name and shape, unless one of that name is at an index.
-abbrev pub create_file : ServerSetup → Scene → (name : List ℕ) → (fac : ℕ) → Option ℕ → Option Shape → Effect
-create_file own scene name fac (Some at) shape = refuse_access scene (refused_access codes.reasons.file_exists)
-create_file own scene name fac None shape = effect_if_permitted own (rights_to_create fac) scene (make_file scene name fac shape)
+-- Makes a file of this name, as it was asked for, unless one of that name is at an index.
+abbrev pub create_file : ServerSetup → Scene → (name : List ℕ) → (fac : ℕ) → Option ℕ → Option Asked → Effect
+create_file own scene name fac (Some at) asked = refuse_access scene (refused_access codes.reasons.file_exists)
+create_file own scene name fac None asked = effect_if_permitted own (rights_to_create fac) scene (make_file scene name fac asked)
 
 -- Removes the file at this index of the table, if there is one: those after it move up. It is acknowledged, and the
 -- access is complete.
@@ -76,11 +77,11 @@ erase_file own scene (Some at) =
     effect_if_permitted own rights_to_erase scene (enters (record scene { files = remove scene.files at }) Ready erased_with)
 
 -- an Access, by ACCFUNC: open and create are supported, and erase by a full server
-abbrev pub access_file : ServerSetup → Scene → AccessFields → Option Shape → Effect
-access_file own scene access shape =
+abbrev pub access_file : ServerSetup → Scene → AccessFields → Option Asked → Effect
+access_file own scene access asked =
     let found = index_by own.names access.name scene.files in
     if access.func == codes.accfunc.opening then open_file own scene access.fac found
-    else if access.func == codes.accfunc.creating then create_file own scene access.name access.fac found shape
+    else if access.func == codes.accfunc.creating then create_file own scene access.name access.fac found asked
     else if own.full && access.func == codes.accfunc.erasing then erase_file own scene (index_to_erase own.names access.name scene.files)
     else refuse_access scene (bare_status (codes.unsupported_code codes.types.access))
 

@@ -1,15 +1,16 @@
 -- Files and records that a server is given before the peer's Configuration.
 use Rattle.std.specs.Prelude.{ℕ, ◌≡◌, ◌≢◌, ◌+◌, ◌-◌, ◌<◌, Bool, not, ◌&&◌, ◌||◌, nat_lt, List, [], ◌∷◌, ◌++◌, length, Some, None}
-use Rattle.rec_file.specs.declared.shapes.Shape.{Shape}
 use Rattle.rec_file.specs.declared.refusals.Refusal.{Refusal}
 use Rattle.rec_file.specs.declared.refusals.Refusal.TheVariants.{BadLength, NumberOutOfRange, RecordExists}
 use Rattle.rec_file.specs.Shapes.{is_seq, allows_length}
 use Rattle.rec_file.specs.Files.{FileVal, highest_of, file_with_record}
 use Rattle.rec_file.specs.Acts.{out_of_range, is_free_number, first_refusal}
+use Rattle.dap_accessed.specs.declared.asked.Asked.{Asked}
+use Rattle.dap_accessed.specs.Asked.{made_file}
 use Rattle.dap_accessed.specs.declared.fault.AddFault.{AddFault}
 use Rattle.dap_accessed.specs.declared.fault.AddFault.TheVariants as fault
 use Rattle.dap_msg.specs.declared.items.Item.{Item}
-use Rattle.dap_accessed.specs.Standing.{Files, index_by, new_file, file_at, with_file, Fresh}
+use Rattle.dap_accessed.specs.Standing.{Files, index_by, file_at, with_file, Fresh}
 use Rattle.dap_accessed.specs.Groups.{stands_after}
 use Rattle.dap_accessed.specs.Present.{Present, StandsAfter}
 
@@ -24,8 +25,8 @@ pub record IsLate (p : Present) : Type 0 where
 -- ---- A file.
 
 -- a file without records, after the others
-abbrev pub with_new_file : List ℕ → Shape → Files → Files
-with_new_file name shape files = files ++ (name, new_file shape) ∷ []
+abbrev pub with_new_file : List ℕ → Asked → Files → Files
+with_new_file name asked files = files ++ (name, made_file asked) ∷ []
 
 -- no Configuration was served, and no file has this name, as the server compares names
 abbrev pub MayAdd : Present → List ℕ → Type 0

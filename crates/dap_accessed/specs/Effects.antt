@@ -9,15 +9,15 @@ use Rattle.dap_msg.specs.BothEnds.{message_limit, is_too_small}
 use Rattle.dap_msg.specs.declared.items.Item.{Item}
 use Rattle.dap_msg.specs.declared.items.Item.TheVariants.{Whole, Malformed}
 use Rattle.rec_file.specs.declared.refusals.Refusal.TheVariants.{NotPermitted}
-use Rattle.rec_file.specs.declared.shapes.Shape.{Shape}
 use Rattle.rec_file.specs.Acts.{StreamVal, delete_record, act}
+use Rattle.dap_accessed.specs.declared.asked.Asked.{Asked}
 use Rattle.dap_accessed.specs.declared.setup.ServerSetup.{ServerSetup}
 use Rattle.dap_accessed.specs.declared.phase.OpenFile.{OpenFile}
 use Rattle.dap_accessed.specs.declared.verbs.Verb.{Verb}
 use Rattle.dap_accessed.specs.declared.verbs.Verb.TheVariants as verbs
 use Rattle.dap_accessed.specs.Standing.{the_file, ServerState, Fresh, Ready, Opened, Connected, Store, Stopped, Group, Standing, Scene, Effect, enters}
 use Rattle.dap_accessed.specs.Replies.{bare_status, coded, sync_status}
-use Rattle.dap_accessed.specs.Past.{asked_shape, kept_attributes, is_dropping, ordinal_so_far}
+use Rattle.dap_accessed.specs.Past.{asked_file, kept_attributes, is_dropping, ordinal_so_far}
 use Rattle.dap_accessed.specs.Accesses.{access_file, complete}
 use Rattle.dap_accessed.specs.Records.{at_number, new_stream, verb_of, get_pick, record_got, put_key, refused_effect, effect_of_outcome, Change, Putting, Updating, effect_of_change}
 use Rattle.dap_accessed.specs.Transfers.{fetch, continue_fetch, store_one, continue_store}
@@ -71,13 +71,13 @@ effect_fresh own scene message = sync scene Fresh message
 
 -- ---- Ready.
 
--- Attributes have no answer, an Access opens or makes a file of the given shape, and messages of types 10 to 16 are
+-- Attributes have no answer, an Access opens a file or makes what is asked for, and messages of types 10 to 16 are
 -- ignored.
-abbrev pub effect_ready : (own : ServerSetup) → Scene → Option Shape → Message → Effect
-effect_ready own scene shape (Other _ _) = enters scene Ready []
-effect_ready own scene shape (Attrib _) = enters scene Ready []
-effect_ready own scene shape (Access access) = access_file own scene access shape
-effect_ready own scene shape message = sync scene Ready message
+abbrev pub effect_ready : (own : ServerSetup) → Scene → Option Asked → Message → Effect
+effect_ready own scene asked (Other _ _) = enters scene Ready []
+effect_ready own scene asked (Attrib _) = enters scene Ready []
+effect_ready own scene asked (Access access) = access_file own scene access asked
+effect_ready own scene asked message = sync scene Ready message
 
 -- ---- Opened.
 
@@ -143,7 +143,7 @@ effect_stopped scene opened stream message = common_effect scene opened (Stopped
 -- what a message does in a phase
 abbrev pub turn_in : (own : ServerSetup) → Scene → (past : List Group) → ServerState → Message → Turn
 turn_in own scene past Fresh message = Does (effect_fresh own scene message)
-turn_in own scene past Ready message = Does (effect_ready own scene (asked_shape (kept_attributes past)) message)
+turn_in own scene past Ready message = Does (effect_ready own scene (asked_file own.full (kept_attributes past)) message)
 turn_in own scene past (Opened opened) message = Does (effect_opened scene opened message)
 turn_in own scene past (Connected opened stream) message = turn_connected scene opened stream message
 turn_in own scene past (Store opened stream) message =

@@ -1,3 +1,4 @@
+pub mod Asked
 pub mod Setup
 pub mod Standing
 pub mod Replies

@@ -1,6 +1,6 @@
 -- What is looked up in the groups so far, the newest first (DAP 5.6.0, Attributes message). The ordinal is a choice
 -- of this implementation.
-use Rattle.std.specs.Prelude.{ℕ, ◌+◌, Bool, true, false, not, ◌&&◌, nat_lt, ◌==◌, min, List, length, filter, filter_map, slice_get, take_while, Option, Some, None, unwrap_or}
+use Rattle.std.specs.Prelude.{ℕ, ◌+◌, Bool, true, false, not, ◌&&◌, nat_lt, ◌==◌, min, List, length, filter, filter_map, slice_get, take_while, Option, Some, None, option_map, unwrap_or, if◌then◌else◌}
 use Rattle.std.specs.List.{list_any}
 use Rattle.dap_msg.specs.Codes as codes
 use Rattle.dap_msg.specs.BothEnds.{no_attributes, with_defaults}
@@ -10,6 +10,8 @@ use Rattle.dap_msg.specs.declared.items.Item.{Item}
 use Rattle.dap_msg.specs.declared.items.Item.TheVariants.{Whole}
 use Rattle.rec_file.specs.declared.shapes.Shape.{Shape}
 use Rattle.rec_file.specs.Shapes.{checked_shape}
+use Rattle.dap_accessed.specs.declared.asked.Asked.{Asked}
+use Rattle.dap_accessed.specs.Asked.{plainly, asked_fully}
 use Rattle.dap_accessed.specs.Standing.{ServerState, Ready, Store, Group}
 
 -- the phase is Ready
@@ -56,6 +58,10 @@ kept_attributes past =
 -- the shape that attributes name, if a file may have it
 abbrev pub asked_shape : Attributes → Option Shape
 asked_shape a = with_defaults checked_shape a
+
+-- what attributes ask for, if a file may be made so: a server that isn't full keeps the shape alone
+abbrev pub asked_file : (full : Bool) → Attributes → Option Asked
+asked_file full a = if full then asked_fully a else option_map plainly (asked_shape a)
 
 -- ---- A Store.
 

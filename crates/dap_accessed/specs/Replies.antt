@@ -1,17 +1,20 @@
 -- The answers of a server (DAP 5.6.0, Status message). Which code and reason is used is a choice of this
 -- implementation.
-use Rattle.std.specs.Prelude.{ℕ, Bool, if◌then◌else◌, List, [], ◌∷◌, Result, Ok, Err}
+use Rattle.std.specs.Prelude.{ℕ, ◌-◌, Bool, if◌then◌else◌, List, [], ◌∷◌, Some, unwrap_or, Result, Ok, Err}
 use Rattle.dap_msg.specs.Codes as codes
 use Rattle.dap_msg.specs.declared.message.Message.{Message}
-use Rattle.dap_msg.specs.declared.message.Message.TheVariants.{Status, Ack}
+use Rattle.dap_msg.specs.declared.message.Message.TheVariants.{Attrib, Status, Ack}
+use Rattle.dap_msg.specs.declared.message.Attributes.{Attributes}
 use Rattle.dap_msg.specs.declared.message.StatusFields.{StatusFields}
 use Rattle.dap_msg.specs.Formats.{type_number as type_of}
-use Rattle.dap_msg.specs.BothEnds.{four_bytes, complete_with, attributes_of}
+use Rattle.dap_msg.specs.BothEnds.{four_bytes, complete_with, no_attributes}
 use Rattle.rec_file.specs.declared.shapes.Org.{Org}
 use Rattle.rec_file.specs.declared.shapes.Org.TheVariants.{Seq, Rel}
 use Rattle.rec_file.specs.declared.shapes.Format.{Format}
 use Rattle.rec_file.specs.declared.shapes.Format.TheVariants.{Fixed, Variable}
 use Rattle.rec_file.specs.declared.shapes.Shape.{Shape}
+use Rattle.rec_file.specs.declared.look.Look.{Look}
+use Rattle.rec_file.specs.Looks.{front_size}
 use Rattle.rec_file.specs.declared.refusals.Refusal.{Refusal}
 use Rattle.rec_file.specs.declared.refusals.Refusal.TheVariants.{NotPermitted, NoCurrent, RecordNotFound, RecordExists, NumberOutOfRange, BadLength, BadAccessMode, DeleteNotAllowed, BadKey, EndOfFile}
 
@@ -98,10 +101,35 @@ abbrev pub format_number : Format → ℕ
 format_number Fixed = codes.rfm.fixed
 format_number Variable = codes.rfm.variable
 
--- the Attributes of a file
-abbrev pub attributes_for : Shape → Message
-attributes_for shape = attributes_of (org_number shape.org) (format_number shape.format) shape.mrs shape.mrn
+-- the attributes that are kept with a file
+abbrev pub look_attributes : Look → Attributes
+look_attributes look = record no_attributes {
+  datatype = look.datatype;
+  rfm = look.rfm;
+  rat = look.rat;
+  bls = look.bls;
+  bks = look.bks;
+  fsz = look.fsz;
+  bsz = look.bsz;
+}
+
+-- MRS as it was given: the limit of a record without its fixed part in front
+abbrev pub given_limit : Shape → Look → ℕ
+given_limit shape look = shape.mrs - front_size look
+
+-- the attributes of a file: ORG, RFM, MRS and MRN, the last in 4 bytes, and what is kept with it
+abbrev pub file_attributes : Shape → Look → Attributes
+file_attributes shape look = record (look_attributes look) {
+  org = Some (org_number shape.org);
+  rfm = Some (unwrap_or look.rfm (format_number shape.format));
+  mrs = Some (given_limit shape look);
+  mrn = Some (four_bytes shape.mrn);
+}
+
+-- they are a message
+abbrev pub attributes_for : Shape → Look → Message
+attributes_for shape look = Attrib (file_attributes shape look)
 
 -- an open file is answered by its Attributes and an Acknowledge
-abbrev pub opened_with : Shape → List Message
-opened_with shape = attributes_for shape ∷ Ack ∷ []
+abbrev pub opened_with : Shape → Look → List Message
+opened_with shape look = attributes_for shape look ∷ Ack ∷ []

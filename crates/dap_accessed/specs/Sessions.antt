@@ -1,7 +1,7 @@
 -- What a server keeps of one link, but for the files: several links may have one table of files.
 use Rattle.std.specs.Prelude.{ℕ, ◌≡◌, ◌<◌, ◌≤◌, ◌==◌, ◌-◌, ◌&&◌, nat_lt, if◌then◌else◌, true, false, [], length, Option, Some, None, option_map}
 use Rattle.std.specs.Global.{Vec}
-use Rattle.dap_msg.specs.BothEnds.{max_nsp_message, min_buffer}
+use Rattle.dap_msg.specs.BothEnds.{max_nsp_message, min_buffer, no_attributes}
 use Rattle.dap_msg.specs.Blocked.{bodies}
 use Rattle.dap_msg.specs.Codes as codes
 use Rattle.dap_msg.specs.declared.message.Message.TheVariants.{Access}
@@ -9,14 +9,15 @@ use Rattle.dap_msg.specs.declared.message.AccessFields.{AccessFields}
 use Rattle.dap_msg.specs.declared.items.Item.{Item}
 use Rattle.dap_msg.specs.declared.items.Item.TheVariants.{Whole}
 use Rattle.rec_file.specs.Limits.{max_record_number}
-use Rattle.rec_file.specs.declared.shapes.Shape.{Shape}
+use Rattle.dap_accessed.specs.declared.asked.Asked.{Asked}
 use Rattle.dap_accessed.specs.declared.setup.ServerSetup.{ServerSetup}
 use Rattle.dap_accessed.specs.declared.phase.OpenFile.{OpenFile}
 use Rattle.dap_accessed.specs.declared.phase.Phase.{Phase}
 use Rattle.dap_accessed.specs.declared.phase.Phase.TheVariants as phases
+use Rattle.dap_accessed.specs.Asked.{plainly}
 use Rattle.dap_accessed.specs.Setup.{lacks, plain_setup}
 use Rattle.dap_accessed.specs.Standing.{Files, index_by, index_to_erase, plain_shape}
-use Rattle.dap_accessed.specs.Past.{is_filedata, is_dropping}
+use Rattle.dap_accessed.specs.Past.{asked_file, is_filedata, is_dropping}
 use Rattle.dap_accessed.specs.Accesses.{rights_to_erase, rights_to_open}
 use Rattle.dap_accessed.specs.Groups.{GroupedItems, after_item, answers_of}
 use Rattle.dap_accessed.specs.Present.{Present, present_of}
@@ -27,7 +28,7 @@ pub record SessionValue : Type 0 where
   pub own : ℕ
   pub setup : ServerSetup
   pub limit : ℕ
-  pub kept : Option Shape
+  pub kept : Option Asked
   pub phase : Phase
 
 -- with these files
@@ -38,10 +39,10 @@ with_files files s = record { own = s.own; setup = s.setup; limit = s.limit; fil
 abbrev pub session_of : Present → SessionValue
 session_of p = record { own = p.own; setup = p.setup; limit = p.limit; kept = p.kept; phase = p.phase }
 
--- no Configuration was served
+-- no Configuration was served, and no Attributes
 abbrev pub session_with : (own : ServerSetup) → SessionValue
 session_with own =
-    record { own = own.identity.bufsiz; setup = own; limit = min_buffer; kept = Some plain_shape; phase = phases.Fresh }
+    record { own = own.identity.bufsiz; setup = own; limit = min_buffer; kept = asked_file own.full no_attributes; phase = phases.Fresh }
 
 -- no Configuration was served, of a server with this BUFSIZ and the usual setup
 abbrev pub new_session : (own : ℕ) → SessionValue
@@ -49,7 +50,7 @@ new_session own = session_with (plain_setup own)
 
 -- after an Access that was refused
 abbrev pub refused_session : SessionValue → SessionValue
-refused_session s = record s { kept = Some plain_shape; phase = phases.Ready }
+refused_session s = record s { kept = Some (plainly plain_shape); phase = phases.Ready }
 
 -- ---- The open file.
 

@@ -1,14 +1,14 @@
 -- The state of a server between two groups of messages (DAP 5.6.0, message sequences).
 use Rattle.std.specs.Prelude.{ℕ, if◌then◌else◌, List, [], get_or, set, Option, None, bytes_eq}
 use Rattle.std.specs.List.{position}
-use Rattle.std.specs.FinMap as map
 use Rattle.dap_msg.specs.BothEnds.{min_buffer}
 use Rattle.dap_msg.specs.declared.message.Message.{Message}
 use Rattle.dap_msg.specs.declared.items.Item.{Item}
 use Rattle.rec_file.specs.declared.shapes.Shape.{Shape}
 use Rattle.rec_file.specs.declared.shapes.Org.TheVariants.{Seq}
 use Rattle.rec_file.specs.declared.shapes.Format.TheVariants.{Variable}
-use Rattle.rec_file.specs.Files.{FileVal}
+use Rattle.rec_file.specs.Files.{FileVal, empty_file}
+use Rattle.rec_file.specs.Looks.{plain_look}
 use Rattle.rec_file.specs.Acts.{StreamVal}
 use Rattle.dap_accessed.specs.Setup.{asks_for_one, same_name}
 use Rattle.dap_accessed.specs.declared.setup.Names.{Names}
@@ -37,9 +37,9 @@ index_to_erase Folded name files = if asks_for_one name then index_by Folded nam
 abbrev pub plain_shape : Shape
 plain_shape = record { org = Seq; format = Variable; mrs = 0; mrn = 0 }
 
--- a file without records
+-- a file without records, of which nothing else is kept
 abbrev pub new_file : Shape → FileVal
-new_file shape = record { shape = shape; records = map.empty }
+new_file shape = empty_file shape plain_look
 
 -- the name of the file at an index, empty if there is none
 abbrev pub name_at : ℕ → Files → List ℕ

@@ -3,6 +3,7 @@
 ghost use Rattle.std.specs.Prelude.{◌≡◌, List, ◌∷◌, ◌++◌, [], ℕ, length, IsTrue, IfErr, OnOk, OnErr, true, false};
 ghost use Rattle.rec_file.specs.Shapes.{is_shape};
 ghost use Rattle.rec_file.specs.AnyFiles.{any_value};
+ghost use Rattle.dap_accessed.specs.Asked.{plainly};
 ghost use Rattle.dap_accessed.specs.Standing.{Files};
 ghost use Rattle.dap_accessed.specs.Present.{StandsAfter};
 ghost use Rattle.dap_accessed.specs.Adding.{IsFresh, IsLate, MayAdd, AddRefused, with_new_file, MayAddRecord, RecordRefused, with_record, leaves_gap};
@@ -10,6 +11,7 @@ ghost use Rattle.dap_accessed.specs.Storing.{Stores};
 ghost use Rattle.dap_msg.specs.declared.items.Item.{Item as TheItem};
 
 use crate::accessed::Accessed;
+use crate::asked::Asked;
 use crate::fault::AddFault;
 use crate::phase::Phase;
 use dap_msg::MIN_BUFFER;
@@ -43,7 +45,7 @@ impl Accessed {
         requires { IsTrue (is_shape shape) }
         ensures may { OnOk result (MayAdd self.old name.now) }
         ensures files { OnOk result
-            (self.new.files ≡ with_new_file name.now shape self.old.files) }
+            (self.new.files ≡ with_new_file name.now (plainly shape) self.old.files) }
         ensures stands { OnOk result ((first : Files) (items : List TheItem)
             → StandsAfter first items self.old → StandsAfter self.new.files items self.new) }
         ensures own { self.new.own ≡ self.old.own }
@@ -57,7 +59,8 @@ impl Accessed {
         if self.files.find_by(self.session.setup.names, name).is_some() {
             return Err(AddFault::FileExists);
         }
-        self.files.make(self.session.alloc, name, shape)?;
+        self.files
+            .make(self.session.alloc, name, Asked::plainly(shape))?;
         Ok(())
     }
 

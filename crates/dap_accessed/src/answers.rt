@@ -6,10 +6,12 @@ ghost use Rattle.dap_msg.specs.Canon.{Fits};
 ghost use Rattle.dap_msg.specs.Sizes.{file_data_size};
 ghost use Rattle.dap_msg.specs.BothEnds.{four_bytes, min_buffer};
 ghost use Rattle.rec_file.specs.Limits.{max_record};
-ghost use Rattle.dap_accessed.specs.Replies.{attributes_for, coded, complete_response, erased_with, format_number, opened_with, org_number, status, too_large};
+ghost use Rattle.rec_file.specs.Looks.{IsLook};
+ghost use Rattle.dap_accessed.specs.Replies.{attributes_for, coded, complete_response, erased_with, format_number, given_limit, opened_with, org_number, status, too_large};
 ghost use Rattle.dap_accessed.specs.Inner.Written.{AddsAnswer, FitsIn, IsAtMost, IsShortReply, IsWritableReply, reply_message, most_bytes};
 ghost use Rattle.dap_accessed.specs.Served.{AreAnswers};
 
+use crate::asked::kept_attributes;
 use crate::fault::NoMemory;
 use dap_msg::codes::{
     CMPFUNC_RESPONSE, ORG_RELATIVE, ORG_SEQUENTIAL, REASON_TOO_LARGE_FOR_BUFFER, RECORD_REFUSED,
@@ -19,7 +21,7 @@ use dap_msg::{
     Attributes, Bytes, Configuration, MIN_BUFFER, MessageValue, StatusFields, append_message,
     encode_value, encoded_len,
 };
-use rec_file::{Format, Org, Shape};
+use rec_file::{Format, Look, Org, Shape};
 use std::alloc::Global;
 use std::marker::Model;
 
@@ -28,8 +30,8 @@ use std::marker::Model;
 pub(crate) enum Answer<'a> {
     /// The Config of an end.
     Config(Configuration),
-    /// The Attributes of a file, and its MRN.
-    Attributes(Shape, [u8; 4]),
+    /// The Attributes of a file, by its shape and its look, and its MRN.
+    Attributes(Shape, Look, [u8; 4]),
     Ack,
     Complete,
     /// A Status with a code alone.
@@ -101,20 +103,29 @@ fn format_code(format: Format) -> u8
     }
 }
 
+/// Returns the MRS that was given: the limit of a record without its fixed part in front (DAP 5.6.0, Attributes
+/// message).
+pub fn given_limit(shape: Shape, look: Look) -> u16
+    ensures { result ≡ given_limit shape look }
+{
+    shape.mrs.saturating_sub(u16::from(look.fsz.unwrap_or(0)))
+}
+
 /// Returns the Attributes of a file, with its MRN in these four bytes.
-#[tactic(auto, using(dap_msg::proofs::ForCallers::answers_fit, crate::proofs::Writing::org_small, crate::proofs::Writing::format_small))]
-fn attributes(shape: Shape, mrn: &[u8]) -> MessageValue<'_>
-    requires { mrn.now ≡ four_bytes shape.mrn }
-    ensures same { result ≡ attributes_for shape }
-    ensures fits { Fits (attributes_for shape) }
-    ensures short { IsAtMost min_buffer (attributes_for shape) }
+#[tactic(auto, using(crate::proofs::Writing::attributes_fit))]
+fn attributes(shape: Shape, look: Look, mrn: &[u8]) -> MessageValue<'_>
+    requires number { mrn.now ≡ four_bytes shape.mrn }
+    requires look { IsLook shape look }
+    ensures same { result ≡ attributes_for shape look }
+    ensures fits { Fits (attributes_for shape look) }
+    ensures short { IsAtMost min_buffer (attributes_for shape look) }
 {
     MessageValue::Attrib(Attributes {
         org: Some(org_code(shape.org)),
-        rfm: Some(format_code(shape.format)),
-        mrs: Some(shape.mrs),
+        rfm: Some(look.rfm.unwrap_or(format_code(shape.format))),
+        mrs: Some(given_limit(shape, look)),
         mrn: Some(Bytes(mrn)),
-        ..Attributes::none()
+        ..kept_attributes(look)
     })
 }
 
@@ -183,7 +194,7 @@ impl<'a> Answer<'a> {
     {
         match self {
             Answer::Config(own) => MessageValue::Config(*own),
-            Answer::Attributes(shape, mrn) => attributes(*shape, mrn),
+            Answer::Attributes(shape, look, mrn) => attributes(*shape, *look, mrn),
             Answer::Ack => MessageValue::Ack,
             Answer::Complete => MessageValue::complete_with(CMPFUNC_RESPONSE),
             Answer::Status(code) => status(*code, &[], &[], &[]),
@@ -223,16 +234,22 @@ pub(crate) fn append(
     Ok(())
 }
 
-/// Returns the answers to an Access that opens a file.
-pub(crate) fn opening(alloc: Global, limit: u16, shape: Shape) -> Result<Vec<Vec<u8>>, NoMemory>
-    requires { min_buffer ≤ limit }
-    ensures { IfOk result (AreAnswers limit (opened_with shape)) }
+/// Returns the answers to an Access that opens a file of this shape and this look.
+pub(crate) fn opening(
+    alloc: Global,
+    limit: u16,
+    shape: Shape,
+    look: Look,
+) -> Result<Vec<Vec<u8>>, NoMemory>
+    requires room { min_buffer ≤ limit }
+    requires look { IsLook shape look }
+    ensures { IfOk result (AreAnswers limit (opened_with shape look)) }
 {
     let mut answers = Vec::new(alloc);
     append(
         alloc,
         limit,
-        Answer::Attributes(shape, shape.mrn.to_le_bytes()),
+        Answer::Attributes(shape, look, shape.mrn.to_le_bytes()),
         &mut answers,
     )?;
     append(alloc, limit, Answer::Ack, &mut answers)?;

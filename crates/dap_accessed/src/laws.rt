@@ -1,7 +1,7 @@
 //! Laws over the definitions alone, for the crates above. Each function does nothing: its contract is
 //! the law.
 
-ghost use Rattle.std.specs.Prelude.{◌≡◌, ◌<◌, ◌^◌, ℕ, List, [], ◌∷◌, ◌++◌, length, None, IsTrue};
+ghost use Rattle.std.specs.Prelude.{◌≡◌, ◌<◌, ◌^◌, ℕ, List, [], ◌∷◌, ◌++◌, length, Some, None, true};
 ghost use Rattle.dap_msg.specs.declared.items.Item.{Item as TheItem};
 ghost use Rattle.dap_msg.specs.declared.message.Message.TheVariants.{Config};
 ghost use Rattle.dap_msg.specs.Fitting.{FieldsFit};
@@ -15,8 +15,13 @@ ghost use Rattle.dap_accessed.specs.Twins.{AreTwins, SameMessages};
 ghost use Rattle.dap_accessed.specs.declared.setup.ServerSetup.{ServerSetup};
 ghost use Rattle.dap_accessed.specs.Standing.{Files, index_of, file_at};
 ghost use Rattle.dap_accessed.specs.Adding.{MayStore, newest, with_new_file, with_record};
-ghost use Rattle.rec_file.specs.Shapes.{is_shape};
+ghost use Rattle.dap_accessed.specs.declared.asked.Asked.{Asked};
+ghost use Rattle.dap_accessed.specs.Asked.{IsAsked, asked_fully};
+ghost use Rattle.dap_accessed.specs.Replies.{file_attributes};
+ghost use Rattle.rec_file.specs.declared.look.Look.{Look};
 ghost use Rattle.rec_file.specs.declared.shapes.Shape.{Shape};
+ghost use Rattle.rec_file.specs.Looks.{IsLook};
+ghost use Rattle.rec_file.specs.Shapes.{is_shape};
 ghost use Rattle.dap_accessed.specs.Groups.{After, Answers, answers_added, limit_for, stands_after};
 
 /// One more message adds its answers to those of the messages before it, and no others.
@@ -51,9 +56,9 @@ pub fn answers_fit()
 
 /// A file and a record that an end is given leave files that obey their shapes and have different names.
 pub fn given_files_are_sound()
-    ensures file { (files : Files) (name : List ℕ) (shape : Shape) → AreFiles files
-        → IsTrue (is_shape shape) → index_of name files ≡ None
-        → AreFiles (with_new_file name shape files) }
+    ensures file { (files : Files) (name : List ℕ) (asked : Asked) → AreFiles files
+        → IsAsked asked → index_of name files ≡ None
+        → AreFiles (with_new_file name asked files) }
     ensures record { (files : Files) (n : ℕ) (body : List ℕ) → AreFiles files → 0 < length files
         → MayStore (file_at (newest files) files) n body → AreFiles (with_record n body files) }
 {}
@@ -79,4 +84,12 @@ pub fn identity_is_told_alone()
     ensures added { (one other : ServerSetup) (first : Files) (items : List TheItem)
         (item : TheItem) → AreTwins one other → SameMessages one.identity other.identity
         (answers_added one first items item) (answers_added other first items item) }
+{}
+
+/// States that the Attributes which a full server gives of a file ask a full server for a file of the same shape, of which
+/// the same is kept: what a copy takes along stands in them (DAP 5.6.0, Attributes message).
+pub fn attributes_ask_for_their_file()
+    ensures { (shape : Shape) (look : Look) → is_shape shape ≡ true → IsLook shape look
+        → asked_fully (file_attributes shape look)
+        ≡ Some (record { shape = shape; look = look }) }
 {}

@@ -6,6 +6,7 @@
 mod accessed;
 mod adding;
 mod answers;
+mod asked;
 mod fault;
 mod laws;
 mod opened;
@@ -20,10 +21,12 @@ mod transfer;
 mod verbs;
 
 pub use accessed::Accessed;
+pub use answers::given_limit;
+pub use asked::{Asked, MAX_FORMAT, kept_attributes, look_of};
 pub use fault::{AddFault, NoMemory};
 pub use laws::{
-    answers_are_sendable, answers_fit, answers_grow, given_files_are_sound, identity_is_told_alone,
-    names_stay_apart, stays_sound,
+    answers_are_sendable, answers_fit, answers_grow, attributes_ask_for_their_file,
+    given_files_are_sound, identity_is_told_alone, names_stay_apart, stays_sound,
 };
 pub use phase::OpenFile;
 pub use refusing::reason_number;

@@ -21,6 +21,7 @@ ghost use Rattle.dap_accessed.specs.declared.phase.Phase.TheVariants as phases;
 ghost use Rattle.dap_accessed.specs.declared.step.Step.TheVariants as steps;
 
 use crate::answers::{Answer, erased, one, opening};
+use crate::asked::{Asked, asked_for};
 use crate::fault::NoMemory;
 use crate::phase::{OpenFile, Phase};
 use crate::served::Served;
@@ -31,8 +32,8 @@ use dap_msg::codes::{
     ACCESS_REFUSED, ACCFUNC_CREATE, ACCFUNC_ERASE, ACCFUNC_OPEN, FILE_NOT_FOUND,
     REASON_BAD_ATTRIBUTES, REASON_FILE_EXISTS, REASON_NOT_PERMITTED, TYPE_ACCESS, unsupported,
 };
-use dap_msg::{AccessFields, FileAccess, Item, MIN_BUFFER, MessageValue};
-use rec_file::{Format, Org, RecordFile, Rights, Shape};
+use dap_msg::{AccessFields, Attributes, FileAccess, Item, MIN_BUFFER, MessageValue};
+use rec_file::{RecordFile, Rights};
 use std::alloc::Global;
 use std::marker::Model;
 
@@ -43,8 +44,8 @@ pub struct Session {
     pub(crate) setup: ServerSetup,
     /// How long a message the peer takes.
     pub(crate) limit: u16,
-    /// The shape that an Access would give a new file.
-    pub(crate) kept: Option<Shape>,
+    /// What an Access would give a new file.
+    pub(crate) kept: Option<Asked>,
     pub(crate) phase: Phase,
 }
 
@@ -67,14 +68,6 @@ impl Model for Session {
 
     ghost invariant = { λ a. IsSession a.setup a.limit a.kept };
 }
-
-/// The shape of a file of which no Attributes message says anything.
-pub(crate) const PLAIN: Shape = Shape {
-    org: Org::Seq,
-    format: Format::Variable,
-    mrs: 0,
-    mrn: 0,
-};
 
 /// Returns the rights that FAC gives, or those of the usual operation where it is 0.
 fn rights_for(fac: u32, usual: FileAccess) -> Rights
@@ -166,6 +159,7 @@ impl Session {
     }
 
     /// Creates a link of a server with this setup on which no Config was served. It takes no memory.
+    #[tactic(auto, using(crate::proofs::StepIs::none_asked))]
     pub fn with_setup(alloc: Global, setup: ServerSetup) -> Session
         requires { IsServerSetup setup }
         ensures { result ≡ session_with setup }
@@ -174,19 +168,20 @@ impl Session {
             alloc,
             setup,
             limit: MIN_BUFFER,
-            kept: Some(PLAIN),
+            kept: Some(Asked::plain()),
             phase: Phase::Fresh,
         }
     }
 
     /// Begins another link, with the same setup: the open file is closed, and a PUT or an UPDATE that waits for its
     /// record is dropped.
+    #[tactic(auto, using(crate::proofs::StepIs::none_asked))]
     pub fn renew(&mut self)
         ensures session { self.new ≡ session_with self.old.setup }
         ensures own { self.new.own ≡ self.old.own }
     {
         self.limit = MIN_BUFFER;
-        self.kept = Some(PLAIN);
+        self.kept = Some(Asked::plain());
         self.phase = Phase::Fresh;
     }
 
@@ -262,7 +257,7 @@ impl Session {
             Step::Enter(phase) => Ok(self.enter(*phase)),
             Step::Reply(answer, phase) => self.reply(*answer, *phase),
             Step::Configure(limit) => self.configure(files, *limit),
-            Step::Keep(shape) => Ok(self.keep(files, *shape)),
+            Step::Keep(attributes) => Ok(self.keep(files, attributes)),
             Step::Access { func, name, fac } => self.access(files, *func, name, *fac),
             Step::Purge(opened) => self.purge(files, *opened),
             Step::Get(opened, stream, control) => self.get(files, *opened, *stream, control),
@@ -316,15 +311,15 @@ impl Session {
         Ok(answers)
     }
 
-    /// Keeps the shape that an Access would give a new file.
-    fn keep(&mut self, files: &FileTable, shape: Option<Shape>) -> Vec<Vec<u8>>
-        requires { CanDo files.now (steps.Keep shape) }
+    /// Keeps what an Access would give a new file.
+    fn keep(&mut self, files: &FileTable, attributes: &Attributes<'_>) -> Vec<Vec<u8>>
+        requires { CanDo files.now (steps.Keep attributes.now) }
         ensures moves { Moves (with_files files.now self.old)
-            (step_move (steps.Keep shape) (with_files files.now self.old))
+            (step_move (steps.Keep attributes.now) (with_files files.now self.old))
             (with_files files.now self.new) result }
         ensures there { IsOpenIn files.now self.new.phase }
     {
-        self.kept = shape;
+        self.kept = asked_for(attributes, self.setup.full);
         self.enter(Phase::Ready)
     }
 
@@ -364,7 +359,7 @@ impl Session {
         ensures err { OnErr result (with_files files.now self.new ≡ with_files files.now self.old) }
     {
         let answers = self.reply(answer, Phase::Ready)?;
-        self.kept = Some(PLAIN);
+        self.kept = Some(Asked::plain());
         Ok(answers)
     }
 
@@ -387,8 +382,9 @@ impl Session {
         if self.setup.lacks(rights_for(fac, FileAccess::GET)) {
             return self.refuse_access(files, refused_access(REASON_NOT_PERMITTED));
         }
-        let answers = opening(self.alloc, self.limit, files.file(at).shape())?;
-        self.kept = Some(PLAIN);
+        let file = files.file(at);
+        let answers = opening(self.alloc, self.limit, file.shape(), file.look())?;
+        self.kept = Some(Asked::plain());
         self.phase = Phase::Opened(there_at(at, fac));
         Ok(answers)
     }
@@ -412,13 +408,13 @@ impl Session {
         if self.setup.lacks(rights_to_create(fac)) {
             return self.refuse_access(files, refused_access(REASON_NOT_PERMITTED));
         }
-        let Some(shape) = self.kept else {
+        let Some(asked) = self.kept else {
             return self.refuse_access(files, refused_access(REASON_BAD_ATTRIBUTES));
         };
-        let answers = opening(self.alloc, self.limit, shape)?;
+        let answers = opening(self.alloc, self.limit, asked.shape, asked.look)?;
         let at = files.count();
-        files.make(self.alloc, name, shape)?;
-        self.kept = Some(PLAIN);
+        files.make(self.alloc, name, asked)?;
+        self.kept = Some(Asked::plain());
         self.phase = Phase::Opened(OpenFile {
             at,
             is_new: true,
@@ -443,7 +439,7 @@ impl Session {
         }
         let answers = erased(self.alloc, self.limit)?;
         files.remove(at);
-        self.kept = Some(PLAIN);
+        self.kept = Some(Asked::plain());
         self.phase = Phase::Ready;
         Ok(answers)
     }

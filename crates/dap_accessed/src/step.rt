@@ -1,14 +1,10 @@
 //! What an item asks for, by the phase in which it comes.
 
-ghost use Rattle.std.specs.Prelude.{◌≡◌, ◌≤◌, IfSome, IsTrue};
+ghost use Rattle.std.specs.Prelude.{◌≡◌, ◌≤◌};
 ghost use Rattle.dap_msg.specs.declared.items.Item.TheVariants.{Whole};
 ghost use Rattle.dap_msg.specs.Items.{ItemFits};
 ghost use Rattle.dap_msg.specs.Decoding.{IsSpelled};
-ghost use Rattle.dap_msg.specs.Fitting.{FieldsFit};
-ghost use Rattle.dap_msg.specs.declared.message.Message.TheVariants.{Attrib};
-ghost use Rattle.rec_file.specs.Shapes.{is_shape};
 ghost use Rattle.dap_accessed.specs.Standing.{Files};
-ghost use Rattle.dap_accessed.specs.Past.{asked_shape};
 ghost use Rattle.dap_accessed.specs.Effects.{control_status};
 ghost use Rattle.dap_accessed.specs.Replies.{bare_status};
 ghost use Rattle.dap_accessed.specs.Transfers.{continue_refused};
@@ -25,14 +21,11 @@ use crate::transfer::at_number;
 use crate::verbs::{Verb, verb_of};
 use dap_msg::codes::{
     CMPFUNC_CLOSE, CMPFUNC_END_OF_STREAM, CMPFUNC_PURGE, CMPFUNC_SKIP, CONFUNC_ABORT,
-    CONFUNC_AGAIN, CONFUNC_RESUME, CONFUNC_SKIP, END_OF_FILE, ORG_SEQUENTIAL, RFM_VARIABLE,
-    SUCCESS, TYPE_COMPLETE, TYPE_CONFIGURATION, TYPE_CONTINUE, TYPE_CONTROL, invalid,
-    out_of_sequence, unsupported,
+    CONFUNC_AGAIN, CONFUNC_RESUME, CONFUNC_SKIP, END_OF_FILE, SUCCESS, TYPE_COMPLETE,
+    TYPE_CONFIGURATION, TYPE_CONTINUE, TYPE_CONTROL, invalid, out_of_sequence, unsupported,
 };
-use dap_msg::{
-    Attributes, ControlFields, Item, MessageValue, is_too_small, limit_of, number_of, status_for,
-};
-use rec_file::{Refusal, Shape, Stream};
+use dap_msg::{Attributes, ControlFields, Item, MessageValue, is_too_small, limit_of, status_for};
+use rec_file::{Refusal, Stream};
 
 /// What an item asks for that is not refused, with all that is needed to do it.
 #[derive(Drop)]
@@ -43,8 +36,8 @@ pub(crate) enum Step<'a> {
     Reply(Answer<'a>, Phase),
     /// A peer that takes messages of this many bytes.
     Configure(u16),
-    /// The shape that an Access would give a new file.
-    Keep(Option<Shape>),
+    /// The attributes of a file that an Access would make.
+    Keep(Attributes<'a>),
     /// A file.
     Access { func: u8, name: &'a [u8], fac: u32 },
     /// The end of an access, without the file that it made.
@@ -249,7 +242,7 @@ fn ready<'a>(message: MessageValue<'a>) -> Result<Step<'a>, u16>
     ensures { AsksFor phases.Ready (Whole message.entry) result }
 {
     match message {
-        MessageValue::Attrib(attributes) => Ok(Step::Keep(shape_for(&attributes))),
+        MessageValue::Attrib(attributes) => Ok(Step::Keep(attributes)),
         MessageValue::Access(access) => Ok(Step::Access {
             func: access.func,
             name: access.name.0,
@@ -278,22 +271,4 @@ fn continuation_refused(func: u8) -> u16
         CONFUNC_RESUME => unsupported(TYPE_CONTINUE),
         _ => invalid(TYPE_CONTINUE),
     }
-}
-
-/// Returns the shape that the attributes of a message that was read ask for.
-fn shape_for(attributes: &Attributes<'_>) -> Option<Shape>
-    requires { FieldsFit (Attrib attributes.now) }
-    ensures same { result ≡ asked_shape attributes.now }
-    ensures good { IfSome result (λ shape. IsTrue (is_shape shape)) }
-{
-    let mrn = match &attributes.mrn {
-        Some(image) => number_of(image.0),
-        None => 0,
-    };
-    Shape::check(
-        attributes.org.unwrap_or(ORG_SEQUENTIAL),
-        attributes.rfm.unwrap_or(RFM_VARIABLE),
-        attributes.mrs.unwrap_or(0),
-        mrn,
-    )
 }

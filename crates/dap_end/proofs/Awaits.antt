@@ -1,10 +1,9 @@
 -- A request, message by message: what the server is sent of it, what it answers, and what it waits for then, whatever
 -- other links have open.
 use Rattle.std.proofs.Common.{◌≡◌, ℕ, refl, sym, ◌∙◌, true, false, Bool, subst, ap, append_assoc, List, [], ◌∷◌, ◌++◌, map, Option, Some, None, inl, inr}
-use Rattle.std.specs.Prelude.{◌⊎◌, if◌then◌else◌, ◌==◌, ◌&&◌, IfSome, IsTrue}
+use Rattle.std.specs.Prelude.{◌⊎◌, if◌then◌else◌, ◌==◌, ◌&&◌}
 use Rattle.std.proofs.lemmas.List.{append-nil, map-append}
-use Rattle.rec_file.specs.declared.shapes.Shape.{Shape}
-use Rattle.rec_file.specs.Shapes.{is_shape}
+use Rattle.dap_accessed.specs.declared.asked.Asked.{Asked}
 use Rattle.rec_file.specs.Acts.{StreamVal}
 use Rattle.dap_msg.specs.declared.message.AccessFields.{AccessFields}
 use Rattle.dap_msg.specs.declared.message.Configuration.{Configuration}
@@ -19,12 +18,12 @@ use Rattle.dap_accessed.specs.declared.setup.ServerSetup.{ServerSetup}
 use Rattle.dap_accessed.specs.Accesses.{access_file, create_file, erase_file, open_file, refuse_access}
 use Rattle.dap_accessed.specs.Effects.{Begun, Does, told}
 use Rattle.dap_accessed.specs.Groups.{GroupedItems, answers_in}
-use Rattle.dap_accessed.specs.Past.{asked_shape, is_dropping, kept_attributes, ordinal_so_far}
+use Rattle.dap_accessed.specs.Past.{asked_file, is_dropping, kept_attributes, ordinal_so_far}
 use Rattle.dap_accessed.specs.Replies.{bare_status}
 use Rattle.dap_accessed.specs.Standing.{Effect, Files, Group, Scene, ServerState, Standing, enters, index_by, index_to_erase}
 use Rattle.dap_accessed.specs.Standing as at
 use Rattle.dap_accessed.specs.Transfers.{store_one}
-use Rattle.dap_accessed.proofs.ForCallers.{AllFiles, after_item, good-shape, index-within, next_group}
+use Rattle.dap_accessed.proofs.ForCallers.{AllFiles, after_item, Good, good-file, index-within, next_group}
 use Rattle.dap_shared.specs.Nodes.{more_beside}
 use Rattle.dap_shared.specs.Sharing.{asks_to_open, file_locked, is_locked}
 use Rattle.dap_accessing.specs.Request.{Request}
@@ -174,7 +173,7 @@ module _ (own_a : Configuration) (own_b : ServerSetup) (scene : Scene) (limit_a 
   abbrev Opens : Effect → Type 0
   Opens e = Comes own_a own_b scene limit_a h Ready hear_attributes e
 
-  by_func : (opening creating erasing : Bool) → erasing ≡ false → (name : List ℕ) (fac : ℕ) (found erased : Option ℕ) (shape : Option Shape) → Opens (open_file own_b scene fac found) → Opens (create_file own_b scene name fac found shape)
+  by_func : (opening creating erasing : Bool) → erasing ≡ false → (name : List ℕ) (fac : ℕ) (found erased : Option ℕ) (shape : Option Asked) → Opens (open_file own_b scene fac found) → Opens (create_file own_b scene name fac found shape)
       → Opens (if opening then open_file own_b scene fac found else if creating then create_file own_b scene name fac found shape else if erasing then erase_file own_b scene erased else refuse_access scene (bare_status (codes.unsupported_code codes.types.access)))
   by_func true creating erasing e name fac found erased shape o c = o
   by_func false true erasing e name fac found erased shape o c = c
@@ -185,7 +184,7 @@ module _ (own_a : Configuration) (own_b : ServerSetup) (scene : Scene) (limit_a 
   never true erasing e = e
   never false erasing e = refl
 
-  accesses : (access : AccessFields) (shape : Option Shape) → (access.func == codes.accfunc.erasing) ≡ false → AllFiles scene.files → IfSome shape (λ s. IsTrue (is_shape s)) → Opens (access_file own_b scene access shape)
+  accesses : (access : AccessFields) (shape : Option Asked) → (access.func == codes.accfunc.erasing) ≡ false → AllFiles scene.files → Good shape → Opens (access_file own_b scene access shape)
   accesses access shape opens_only all good =
       let found = index_by own_b.names access.name scene.files in
       by_func (access.func == codes.accfunc.opening) (access.func == codes.accfunc.creating) (own_b.full && access.func == codes.accfunc.erasing)
@@ -320,9 +319,9 @@ module _ (own_a : Configuration) (own_b : ServerSetup) (a : IsBufsiz own_a.bufsi
   access_second r access hears opens_only h true = record { added = bare_status file_locked ∷ []; adds = refl; leads = inl (record { last = refl; whole = refl; done = report.Refused 0x4030 0; heard = hears (Whole (bare_status file_locked) ∷ []); agree = h }) }
   access_second r access hears opens_only h false =
       let scene : Scene = record { limit = limit; files = files } in
-      let shape = asked_shape (kept_attributes past) in
+      let shape = asked_file own_b.full (kept_attributes past) in
       let e = told own_b (access_file own_b scene access shape) in
-      let c = accesses own_a own_b scene limit_a h access shape opens_only all (good-shape (kept_attributes past)) in
+      let c = accesses own_a own_b scene limit_a h access shape opens_only all (good-file own_b.full (kept_attributes past)) in
       record { added = e.answers; adds = refl; leads = inl (record { last = refl; whole = refl; done = c.0; heard = hears (map Whole e.answers) ∙ c.1; agree = c.2 }) }
 
   -- ---- The Data message of a change.

@@ -52,15 +52,17 @@ use Rattle.std.proofs.lemmas.Bool.{lt-ltb, le-ltb}
 use Rattle.std.proofs.lemmas.Bool.Decides.{nat_tests}
 use Rattle.dap_msg.specs.declared.message.Attributes.{Attributes}
 use Rattle.dap_msg.specs.BothEnds.{message_limit, max_nsp_message}
+use Rattle.rec_file.specs.declared.look.Look.{Look}
 use Rattle.rec_file.specs.declared.shapes.Shape.{Shape}
+use Rattle.dap_accessed.specs.declared.asked.Asked.{Asked}
 use Rattle.rec_file.specs.Limits.{max_record_number, max_record}
 use Rattle.rec_file.specs.Shapes.{is_shape, is_seq, has_length}
 use Rattle.dap_accessed.specs.Accesses.{make_file, refuse_access, rights_to_create, rights_to_open, open_file, create_file}
 use Rattle.dap_msg.specs.BothEnds.{no_attributes}
-use Rattle.dap_accessed.specs.Past.{asked_shape, kept_attributes}
-use Rattle.dap_accessed.specs.Replies.{reason_of, refused_access, opened_with, org_number, format_number}
+use Rattle.dap_accessed.specs.Past.{asked_file, kept_attributes}
+use Rattle.dap_accessed.specs.Replies.{reason_of, refused_access, given_limit, opened_with, org_number, format_number}
 use Rattle.dap_accessed.proofs.ForCallers.{AllFiles, file-there, after_item}
-use Rattle.dap_accessed.proofs.ForCallers.{good-shape, index-within}
+use Rattle.dap_accessed.proofs.ForCallers.{Good, good-file, index-within}
 use Rattle.dap_accessing.specs.Told.{hear_attributes}
 use Rattle.dap_accessing.proofs.ForCallers.{behind-more, records-more}
 use Rattle.dap_end.specs.Agreement.{IsBufsiz}
@@ -222,8 +224,9 @@ mrn_read shape g =
     let fits : shape.mrn ≤ max_record_number = grind (arith, nat_tests) in
     ap (λ n. nat_le n 2147483647) (number-four_bytes shape.mrn (omega arith)) ∙ e
 
-hear_shape : (shape : Shape) → IsTrue (is_shape shape) → hear_attributes (map Whole (opened_with shape)) ≡ Reports (report.Opened (org_number shape.org) (format_number shape.format) shape.mrs (number_of (four_bytes shape.mrn))) []
-hear_shape shape g = rw (mrn_read shape g) refl
+hear_shape : (shape : Shape) (look : Look) → IsTrue (is_shape shape)
+    → hear_attributes (map Whole (opened_with shape look)) ≡ Reports (report.Opened (org_number shape.org) (unwrap_or look.rfm (format_number shape.format)) (given_limit shape look) (number_of (four_bytes shape.mrn))) []
+hear_shape shape look g = rw (mrn_read shape g) refl
 
 abbrev control_of : (func rac : ℕ) → Option (List ℕ) → ControlFields
 control_of func rac key = record { func = func; rac = Some rac; key = key; krf = None; rop = None; hsh = None; display = None }
@@ -343,13 +346,13 @@ module _ (own_a : Configuration) (own_b : ServerSetup) (scene : Scene) (limit_a 
 
   pub opens : (fac : ℕ) (found : Option ℕ) → IfSome found (λ n. IsTrue (is_shape (file_at n scene.files).shape)) → Comes Ready hear_attributes (open_file own_b scene fac found)
   opens fac None g = (report.Refused 0x4032 0, refl, h)
-  opens fac (Some n) g = comes_if (lacks own_b.most (rights_to_open fac)) _ (_, hear_shape (file_at n scene.files).shape g, h)
+  opens fac (Some n) g = comes_if (lacks own_b.most (rights_to_open fac)) _ (_, hear_shape (file_at n scene.files).shape (file_at n scene.files).look g, h)
 
-  makes : (name : List ℕ) (fac : ℕ) (shape : Option Shape) → IfSome shape (λ s. IsTrue (is_shape s)) → Comes Ready hear_attributes (make_file scene name fac shape)
+  makes : (name : List ℕ) (fac : ℕ) (shape : Option Asked) → Good shape → Comes Ready hear_attributes (make_file scene name fac shape)
   makes name fac None g = (_, hear_refused_access own_b.full 11, h)
-  makes name fac (Some shape) g = (_, hear_shape shape g, h)
+  makes name fac (Some asked) g = (_, hear_shape asked.shape asked.look g.shape, h)
 
-  pub creates : (name : List ℕ) (fac : ℕ) (found : Option ℕ) (shape : Option Shape) → IfSome shape (λ s. IsTrue (is_shape s)) → Comes Ready hear_attributes (create_file own_b scene name fac found shape)
+  pub creates : (name : List ℕ) (fac : ℕ) (found : Option ℕ) (shape : Option Asked) → Good shape → Comes Ready hear_attributes (create_file own_b scene name fac found shape)
   creates name fac (Some n) shape g = (_, hear_refused_access own_b.full 1, h)
   creates name fac None shape g = comes_if (lacks own_b.most (rights_to_create fac)) _ (makes name fac shape g)
 
@@ -432,7 +435,7 @@ module _ (own_a : Configuration) (own_b : ServerSetup) (files : Files) (limit : 
       let scene : Scene = record { limit = limit; files = files } in
       let a : Attributes = record no_attributes { org = Some org; rfm = Some rfm; mrs = Some mrs; mrn = Some (four_bytes mrn) } in
       let kept : Attributes = kept_attributes (record { state = at.Ready; first = Whole (Attrib a); answers = [] } ∷ past) in
-      let r = creates own_a own_b scene limit_a h name fac (index_by own_b.names name files) (asked_shape kept) (good-shape kept) in
+      let r = creates own_a own_b scene limit_a h name fac (index_by own_b.names name files) (asked_file own_b.full kept) (good-file own_b.full kept) in
       record { answers = _; done = r.0; new = _; cut_is = refl; adds = adds-two past _; heard = r.1; agree = r.2 }
 
   abbrev configured : Scene → (bufsiz : ℕ) → Effect

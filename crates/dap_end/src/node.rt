@@ -3,7 +3,7 @@
 ghost use Rattle.std.specs.Prelude.{◌≡◌, ◌≤◌, ◌<◌, ◌+◌, ◌-◌, ℕ, List, [], Some, None, length, replicate, IfOk, IfErr, IfSome, OnOk, OnErr, IsErrOf, IsTrue, slice_get, set, false, true};
 ghost use Rattle.dap_msg.specs.BothEnds.{min_buffer};
 ghost use Rattle.dap_msg.specs.Blocked.{bodies};
-ghost use Rattle.rec_file.specs.Shapes.{is_shape};
+ghost use Rattle.dap_accessed.specs.Asked.{IsAsked};
 ghost use Rattle.nsp_link.specs.Link.{IsSetup, IsSpelling};
 ghost use Rattle.nsp_link.specs.Sending.{WritesSent, ack_packet_of};
 ghost use Rattle.nsp_link.specs.declared.fault.LinkFault.TheVariants.{Failed, NoSuchSegment};
@@ -24,10 +24,10 @@ ghost use Rattle.std.specs.Result.{result_map_both};
 use crate::fault::TakeFault;
 use crate::port::Port;
 use crate::{addresses, turns};
-use dap_accessed::{ALL_RIGHTS, AddFault, FileTable, NoMemory, ServerSetup};
+use dap_accessed::{ALL_RIGHTS, AddFault, Asked, FileTable, NoMemory, ServerSetup};
 use dap_shared::{NotedFiles, RemoveFault};
 use nsp_link::{Got, LinkEnd, LinkFault, LinkSetup};
-use rec_file::{Rights, Shape};
+use rec_file::Rights;
 use std::alloc::Global;
 use std::marker::Model;
 
@@ -331,18 +331,18 @@ impl ServingNode {
     }
 
     /// Adds a file without records after the others, before a segment came on any link. Its shape is one that
-    /// [`Shape::check`] gives.
+    /// [`rec_file::Shape::check`] gives, and its look is one of that shape.
     ///
     /// Refusals in order: Busy, FileExists, NoMemory; each leaves the node unchanged.
-    pub fn add(&mut self, name: &[u8], shape: Shape) -> Result<(), AddFault>
-        requires { IsTrue (is_shape shape) }
+    pub fn add(&mut self, name: &[u8], asked: Asked) -> Result<(), AddFault>
+        requires { IsAsked asked }
         ensures idle { OnOk result (NoneHasCome self.old.ports) }
         ensures may { OnOk result (index_by self.old.noted.shared.setup.names name.now
             self.old.noted.shared.files ≡ None) }
         ensures given { OnOk result
-            (SharedGiven (Gives name.now shape) self.old.noted.shared self.new.noted.shared) }
+            (SharedGiven (Gives name.now asked) self.old.noted.shared self.new.noted.shared) }
         ensures files { OnOk result (self.new.noted.shared.files
-            ≡ with_new_file name.now shape self.old.noted.shared.files) }
+            ≡ with_new_file name.now asked self.old.noted.shared.files) }
         ensures ports { self.new.ports ≡ self.old.ports }
         ensures notes { self.new.noted ≡ record self.old.noted { shared = self.new.noted.shared } }
         ensures refused { IfErr result
@@ -353,7 +353,7 @@ impl ServingNode {
         if has_come(&self.ports) {
             return Err(AddFault::Busy);
         }
-        self.noted.add(name, shape)
+        self.noted.add(name, asked)
     }
 
     /// Adds a record to the file of this name, under its number, before a segment came on any link. In a sequential

@@ -13,6 +13,7 @@ ghost use Rattle.dap_accessed.specs.Groups.{After};
 ghost use Rattle.dap_accessed.specs.Present.{StandsAfter};
 ghost use Rattle.dap_accessed.specs.Served.{IsSilent};
 ghost use Rattle.dap_accessed.specs.Standing.{Files};
+ghost use Rattle.dap_accessed.specs.Asked.{plainly};
 ghost use Rattle.dap_accessed.specs.Adding.{MayAdd, MayAddRecord, AddRefused, RecordRefused, with_new_file, with_record};
 ghost use Rattle.dap_end.specs.Ports.{HasCome, new_port};
 ghost use Rattle.dap_end.specs.Going.{oldest_message};
@@ -132,7 +133,7 @@ impl End<Accessed> {
         ensures idle { OnOk result (HasCome self.old.port → ⊥) }
         ensures may { OnOk result (MayAdd self.old.present name.now) }
         ensures files { OnOk result (self.new.present.files
-            ≡ with_new_file name.now shape self.old.present.files) }
+            ≡ with_new_file name.now (plainly shape) self.old.present.files) }
         ensures given { OnOk result ((history : ServerHistory) → IsAfter history self.old
             → IsAfter (record history { first = self.new.present.files }) self.new) }
         ensures port { self.new.port ≡ self.old.port }

@@ -13,13 +13,12 @@ use Rattle.nsp_link.specs.declared.fault.LinkFault.TheVariants.{Failed}
 use Rattle.nsp_seg.specs.declared.packet.SegFault.{SegFault}
 use Rattle.nsp_link.proofs.ForCallers.{sends_new}
 use Rattle.rec_file.specs.declared.picks.Rights.{Rights}
-use Rattle.rec_file.specs.declared.shapes.Shape.{Shape}
 use Rattle.rec_file.specs.declared.refusals.Refusal.{Refusal}
-use Rattle.rec_file.specs.Shapes.{checked_shape}
 use Rattle.dap_accessed.specs.declared.fault.AddFault.{AddFault}
 use Rattle.dap_accessed.specs.declared.fault.AddFault.TheVariants as add
 use Rattle.dap_accessed.specs.declared.setup.Names.{Names}
 use Rattle.dap_accessed.specs.declared.setup.ServerSetup.{ServerSetup}
+use Rattle.dap_accessed.specs.declared.asked.Asked.{Asked}
 use Rattle.dap_accessed.specs.Standing.{Files, file_at, index_by}
 use Rattle.dap_accessed.specs.Adding.{MayStore, with_new_file}
 use Rattle.dap_accessed.specs.Storing.{StoreRefused}
@@ -33,12 +32,16 @@ use Rattle.dap_end.specs.declared.fault.EndFault.{EndFault}
 use Rattle.dap_end.specs.declared.fault.TakeFault.{TakeFault}
 use Rattle.dap_end.specs.Ports.{PortValue, new_port}
 use Rattle.dap_end.specs.Node.{AtPort, HasAddress, HasPort, NodeLinkValue, NodeNotGiven, NodeValue, NoneHasCome, OnLink, SomeHasCome, without_notes, has_local, is_between, is_free_link}
+use Rattle.dap_text.specs.declared.fault.FileFault.{FileFault}
+use Rattle.dap_text.specs.declared.fault.FileFault.TheVariants as file_fault
 use Rattle.dap_text.specs.declared.filed.RecordLine.{RecordLine}
+use Rattle.dap_text.proofs.ForCallers.{one-asked}
+use Rattle.dap_msg.specs.Codes.{reasons, stscode}
 use Rattle.dap_text.specs.Tables.{files_lines}
 use Rattle.texts.specs.Words.{Words, ends, hex_of, words_of}
 use Rattle.dap_text.specs.Filed.{file_line_of, record_line_of}
 use Rattle.linewise.specs.declared.talking.Became.{Became}
-use Rattle.linewise.specs.declared.talking.Became.TheVariants.{Done, NoMemory}
+use Rattle.linewise.specs.declared.talking.Became.TheVariants.{BadLine, Done, NoMemory}
 use Rattle.linewise.specs.Talks.{HaveOneText}
 use Rattle.linewise.proofs.ForCallers.{comes_one, one_text}
 use Rattle.dap_live.specs.declared.node.Node.{Node}
@@ -47,9 +50,9 @@ use Rattle.dap_live.specs.declared.node_orders.NodeOrder.TheVariants as order
 use Rattle.dap_live.specs.declared.orders.Between.{Between}
 use Rattle.dap_live.specs.NodeOrders.{address_alone, filing_forms, links_order_of, node_order_of, one_order_of, text_alone}
 use Rattle.dap_live.specs.Orders.{anew_of, between_of, hex_alone, most_anew, most_beside, setup_anew, setup_beside}
-use Rattle.dap_live.specs.Texts.{LineAnswer, add_refusal, done_said, link_refusal, locked_text, packets_text, remove_refusal, taken_said}
+use Rattle.dap_live.specs.Texts.{LineAnswer, add_refusal, done_said, link_refusal, locked_text, packets_text, remove_refusal, taken_said, status_line}
 use Rattle.dap_live.specs.Both.{DoneOr, LeavesEnd}
-use Rattle.dap_live.specs.Node.{AddsLink, AddsRecordTo, BeginsOn, NodeDoes, DoesNodeOrder, DropsFile, DropsNamedFile, EndsOn, FileNotGiven, FindsLink, GivenTo, GivesFile, GivesNext, GivesRecordTo, GoesOnWith, HasRun, HasSent, IsNewNode, NoLink, RecordNotGiven, RefusesLink, RenewsOn, ResendsOn, Says, TakesOn, TakesPacketBy, about, answered, before_line, first_events, is_alone, is_work_left_at, is_used, meant, one_link, receiver_of, sender_of, node_without_file, used_by, waiting, waits_on}
+use Rattle.dap_live.specs.Node.{AddsAsked, AddsLink, AddsRecordTo, BeginsOn, NodeDoes, DoesNodeOrder, DropsFile, DropsNamedFile, EndsOn, FileNotGiven, FindsLink, GivenTo, GivesFile, GivesNext, GivesRecordTo, GoesOnWith, HasRun, HasSent, IsNewNode, NoLink, RecordNotGiven, RefusesLink, RenewsOn, ResendsOn, Says, TakesOn, TakesPacketBy, about, answered, before_line, first_events, is_alone, is_work_left_at, is_used, meant, one_link, receiver_of, sender_of, node_without_file, used_by, waiting, waits_on}
 use Rattle.dap_live.specs.Inner.OneText.{AreSameNodes, HasCarried}
 use Rattle.dap_live.proofs.OneLine.{HexFits, ack_one, all_again, gone_wants, hex_fits, setup_apart, setup_one, taken_wants}
 use Rattle.dap_live.proofs.OneLine.{one_answer}
@@ -387,14 +390,14 @@ file-why names files name add.FileExists g nf ng x y = absurd y
 file-why names files name add.NoMemory g nf ng x y = absurd (nf refl)
 file-why names files name f g nf ng x y = absurd x
 
-module _ (old : Node) (name : List ℕ) (shape : Shape) where
+module _ (old : Node) (name : List ℕ) (asked : Asked) where
   abbrev names : Names
   names = old.node.noted.shared.setup.names
 
   abbrev files : Files
   files = old.node.noted.shared.files
 
-  file-not : (one : Node) (f : AddFault) → f ≢ add.NoMemory → GivesFile name shape old one → FileNotGiven name old f → ⊥
+  file-not : (one : Node) (f : AddFault) → f ≢ add.NoMemory → GivesFile name asked old one → FileNotGiven name old f → ⊥
   file-not one f want x h =
       not-given (index_by names name files ≡ None) (NotAdded names files name) (file-apart names files name) (file-why names files name) old.node f want x.given.idle x.first
       (not-used (is_used old) _ _ x.idle h)
@@ -405,10 +408,10 @@ module _ (old : Node) (name : List ℕ) (shape : Shape) where
       (λ u v. given-why (index_by names name files ≡ None) (NotAdded names files name) (file-apart names files name) (file-why names files name) old.node f g nf ng u v) x y
 
   give-file : (one two : Node) (said more : List ℕ) (b c : Became) → HasRun old.node → b ≢ NoMemory → c ≢ NoMemory
-      → DoneOr (λ became. became) (GivesFile name shape old one) (FileNotGiven name old) add_refusal (node_without_file old) one said b
-      → DoneOr (λ became. became) (GivesFile name shape old two) (FileNotGiven name old) add_refusal (node_without_file old) two more c → Same one two said more b c
+      → DoneOr (λ became. became) (GivesFile name asked old one) (FileNotGiven name old) add_refusal (node_without_file old) one said b
+      → DoneOr (λ became. became) (GivesFile name asked old two) (FileNotGiven name old) add_refusal (node_without_file old) two more c → Same one two said more b c
   give-file one two said more b c h nb nc (inl x) (inl y) =
-      let t = given-one (with_new_file name shape files) (Gives name shape) old.node one.node two.node h x.0.given y.0.given in (
+      let t = given-one (with_new_file name asked files) (Gives name asked) old.node one.node two.node h x.0.given y.0.given in (
         x.0.rest ∙ ap (λ (n : NodeValue). record old { node = n; given = one.given }) t.0
             ∙ ap (λ (g : Option (List ℕ)). record old { node = two.node; given = g }) (x.0.named ∙ sym y.0.named) ∙ sym y.0.rest,
         x.1 ∙ sym y.1,
@@ -421,12 +424,14 @@ module _ (old : Node) (name : List ℕ) (shape : Shape) where
       why-one add_refusal (node_without_file old) one two said more b c x.0 y.0 h
       (files-why x.0 y.0 (add-want x.0 (λ e. nb (x.4 ∙ e))) (add-want y.0 (λ e. nc (y.4 ∙ e))) x.1 y.1) (x.2, x.3, x.4) (y.2, y.3, y.4)
 
-file-by : (o : Option Shape) (why : LineAnswer) (old one two : Node) (name said more : List ℕ) (b c : Became) → HasRun old.node → b ≢ NoMemory → c ≢ NoMemory
-    → MatchOption o (Says why (node_without_file old) one said b) (λ shape. DoneOr (λ became. became) (GivesFile name shape old one) (FileNotGiven name old) add_refusal (node_without_file old) one said b)
-    → MatchOption o (Says why (node_without_file old) two more c) (λ shape. DoneOr (λ became. became) (GivesFile name shape old two) (FileNotGiven name old) add_refusal (node_without_file old) two more c)
-    → Same one two said more b c
-file-by None why old one two name said more b c h nb nc x y = says-one why (node_without_file old) one two said more b c h x y
-file-by (Some shape) why old one two name said more b c h nb nc x y = give-file old name shape one two said more b c h nb nc x y
+file-by : (o : Result Asked FileFault) (old one two : Node) (name said more : List ℕ) (b c : Became) → HasRun old.node → b ≢ NoMemory → c ≢ NoMemory
+    → AddsAsked old name o one said b → AddsAsked old name o two more c → Same one two said more b c
+file-by (Ok asked) old one two name said more b c h nb nc x y = give-file old name asked one two said more b c h nb nc x y
+file-by (Err file_fault.BadKept) old one two name said more b c h nb nc x y = says-one ([], BadLine) old one two said more b c h x y
+file-by (Err file_fault.BadAttributes) old one two name said more b c h nb nc x y =
+    says-one (status_line stscode.access_refused reasons.bad_attributes, Done) (node_without_file old) one two said more b c h x y
+file-by (Err file_fault.NoMemory) old one two name said more b c h nb nc x y =
+    says-one (status_line stscode.access_refused reasons.bad_attributes, Done) (node_without_file old) one two said more b c h x y
 
 -- ---- A record.
 
@@ -624,7 +629,8 @@ does-one order.Files old one two said more b c fits h nb nc x y =
     let listed = comes_one (files_lines old.node.noted.shared.files) said more b c nb nc x.1 y.1 in
     (x.0 ∙ sym y.0, listed.0, listed.1, subst (λ (n : Node). HasRun n.node) (sym x.0) h)
 does-one (order.File file) old one two said more b c fits h nb nc x y =
-    file-by (checked_shape file.org file.rfm file.mrs file.mrn) _ old one two file.name said more b c h nb nc x y
+    let same : y.0 ≡ x.0 = one-asked file x.0 y.0 x.1 y.1 in
+    file-by x.0 old one two file.name said more b c h nb nc x.2 (subst (λ (r : Result Asked FileFault). AddsAsked old file.name r two more c) same y.2)
 does-one (order.Record r) old one two said more b c fits h nb nc x y = record-one old r one two said more b c h nb nc x y
 does-one (order.Drop name) old one two said more b c fits h nb nc x y = drop-one old name one two said more b c h x y
 

@@ -2,9 +2,7 @@
 -- link alone, that link.
 use Rattle.std.specs.Prelude.{◌≡◌, ◌⊎◌, ◌++◌, ◌==◌, Bool, false, true, ℕ, length, MatchBool, MatchOption, MatchResult, List, [], ◌∷◌, codes, replicate, set, slice_get, if◌then◌else◌, Option, Some, None, Result, Ok, Err}
 use Rattle.std.specs.List.{list_any, position}
-use Rattle.rec_file.specs.Shapes.{checked_shape}
 use Rattle.rec_file.specs.declared.picks.Rights.{Rights}
-use Rattle.rec_file.specs.declared.shapes.Shape.{Shape}
 use Rattle.nsp_seg.specs.declared.packet.Packet.{Packet}
 use Rattle.nsp_seg.specs.declared.packet.Packet.TheVariants.{Segment, DataAck}
 use Rattle.nsp_seg.specs.declared.packet.SegFault.{SegFault}
@@ -20,6 +18,7 @@ use Rattle.dap_accessed.specs.declared.fault.AddFault.TheVariants as add
 use Rattle.dap_accessed.specs.declared.setup.Names.{Names}
 use Rattle.dap_accessed.specs.declared.setup.ServerSetup.{ServerSetup}
 use Rattle.dap_accessed.specs.Adding.{MayStore, with_new_file}
+use Rattle.dap_accessed.specs.declared.asked.Asked.{Asked}
 use Rattle.dap_accessed.specs.Setup.{all_rights, same_name}
 use Rattle.dap_accessed.specs.Standing.{Files, file_at, index_by}
 use Rattle.dap_shared.specs.Nodes.{Begins, Event, Gives, GivesRecord, with_record_at}
@@ -30,9 +29,12 @@ use Rattle.dap_end.specs.declared.fault.TakeFault.TheVariants as take
 use Rattle.dap_end.specs.Ports.{PortValue, new_port}
 use Rattle.dap_end.specs.Node.{AtPort, BeganOn, EndedOn, HasPort, NodeNotGiven, NodeValue, NoneHasCome, OnLink, has_local, is_between, is_free_link, serves_on}
 use Rattle.dap_end.specs.Turns.{TakesPacket, WentOn}
+use Rattle.dap_text.specs.declared.fault.FileFault.{FileFault}
+use Rattle.dap_text.specs.declared.fault.FileFault.TheVariants as file_fault
 use Rattle.dap_text.specs.declared.filed.FileLine.{FileLine}
 use Rattle.dap_text.specs.declared.filed.RecordLine.{RecordLine}
 use Rattle.dap_text.specs.declared.tables.FilesCursor.{FilesCursor}
+use Rattle.dap_text.specs.Kept.{LineAsks}
 use Rattle.dap_text.specs.Tables.{files_lines, lines_from}
 use Rattle.linewise.specs.Talks.{ComesIn}
 use Rattle.linewise.specs.declared.talking.Became.{Became}
@@ -251,10 +253,10 @@ pub record GivenTo (made : Files) (event : Event) (old new : NodeValue) : Type 0
   pub ports : new.ports ≡ old.ports
 
 -- A file was added, while no link is used: no file had its name. The next records are added to it.
-pub record GivesFile (name : List ℕ) (shape : Shape) (old new : Node) : Type 0 where
+pub record GivesFile (name : List ℕ) (asked : Asked) (old new : Node) : Type 0 where
   pub idle : is_used old ≡ false
   pub first : index_by old.node.noted.shared.setup.names name old.node.noted.shared.files ≡ None
-  pub given : GivenTo (with_new_file name shape old.node.noted.shared.files) (Gives name shape) old.node new.node
+  pub given : GivenTo (with_new_file name asked old.node.noted.shared.files) (Gives name asked) old.node new.node
   pub named : new.given ≡ Some name
   pub rest : new ≡ record old { node = new.node; given = new.given }
 
@@ -263,11 +265,19 @@ abbrev pub FileNotGiven : (name : List ℕ) → Node → AddFault → Type 0
 FileNotGiven name node f = MatchBool (is_used node) (f ≡ add.Busy)
     (NodeNotGiven node.node (NotAdded node.node.noted.shared.setup.names node.node.noted.shared.files name) f)
 
--- A file is added, or the reason why not is answered, and no file takes records. Bad attributes come first.
+-- The file is added that is asked for, or the reason why not is answered, and no file takes records. A line that says
+-- something is kept which isn't is no line.
+abbrev pub AddsAsked : Node → (name : List ℕ) → Result Asked FileFault → Node → List ℕ → Became → Type 0
+AddsAsked old name (Ok asked) new text became =
+    DoneOr (λ became. became) (GivesFile name asked old new) (FileNotGiven name old) add_refusal (node_without_file old) new text became
+AddsAsked old name (Err file_fault.BadKept) new text became = Says ([], BadLine) old new text became
+AddsAsked old name (Err f) new text became =
+    Says (status_line stscode.access_refused reasons.bad_attributes, Done) (node_without_file old) new text became
+
+-- the file of a line is added, by what the line asks for
 abbrev pub AddsFileTo : Node → FileLine → Node → List ℕ → Became → Type 0
-AddsFileTo old file new text became = MatchOption (checked_shape file.org file.rfm file.mrs file.mrn)
-    (Says (status_line stscode.access_refused reasons.bad_attributes, Done) (node_without_file old) new text became)
-    (λ shape. DoneOr (λ became. became) (GivesFile file.name shape old new) (FileNotGiven file.name old) add_refusal (node_without_file old) new text became)
+AddsFileTo old file new text became =
+    (asks : Result Asked FileFault) × LineAsks file asks × AddsAsked old file.name asks new text became
 
 -- a record was added to the file of this name
 abbrev pub GivesRecordTo : (name : List ℕ) → (number : ℕ) → (body : List ℕ) → NodeValue → NodeValue → Type 0

@@ -1,9 +1,9 @@
 //! The server, over lines: one link, or several before one table of files.
 
-ghost use Rattle.std.specs.Prelude.{◌≡◌, ◌<◌, ◌⊎◌, ◌==◌, [], ℕ, length, Some, None, OnOk, OnErr, IfOk, IfErr, IfSome, IsTrue, set, true, false};
+ghost use Rattle.std.specs.Prelude.{◌≡◌, ◌<◌, ◌⊎◌, ◌==◌, [], ℕ, length, Ok, Some, None, OnOk, OnErr, IfOk, IfErr, IfSome, IsTrue, set, true, false};
 ghost use Rattle.std.specs.List.{position};
 ghost use Rattle.dap_msg.specs.Blocked.{bodies};
-ghost use Rattle.rec_file.specs.Shapes.{is_shape};
+ghost use Rattle.dap_accessed.specs.Asked.{IsAsked};
 ghost use Rattle.dap_accessed.specs.Setup.{IsServerSetup, all_rights, same_name};
 ghost use Rattle.nsp_link.specs.Link.{IsSetup, SetupFault};
 ghost use Rattle.nsp_link.specs.declared.fault.LinkFault.TheVariants as link_fault;
@@ -15,9 +15,9 @@ ghost use Rattle.dap_live.specs.Both.{LeavesEnd};
 ghost use Rattle.dap_live.specs.Sending.{SaysAck, UnlessFailed};
 ghost use Rattle.dap_live.specs.Texts.{LineAnswer};
 ghost use Rattle.dap_live.specs.Inner.NodeReaching.{IsDoneWithText, NodeReaches};
-ghost use Rattle.dap_live.specs.Inner.Filing.{AddsShapedTo, GivesRecordBy, HasNoBytes, RecordNotBy};
+ghost use Rattle.dap_live.specs.Inner.Filing.{AddsNewTo, GivesRecordBy, HasNoBytes, RecordNotBy};
 ghost use Rattle.dap_live.specs.Orders.{most_anew, most_beside, setup_anew};
-ghost use Rattle.dap_live.specs.Node.{AddsFileTo, AddsLink, AddsRecordTo, BeginsOn, NodeDoes, DoesNodeOrder, DropsFile, FindsLink, GoesOnWith, IsNewNode, IsNotDone, MayWantMemory, NoLink, ResendsOn, TakesOn, TakesPacketBy, RenewsOn, about, before_line, given_beside, is_alone, is_work_left_at, is_used, meant, one_link, pieces, receiver_of, sender_of, node_without_file, used_by, waits_on as waits_by};
+ghost use Rattle.dap_live.specs.Node.{AddsAsked, AddsFileTo, AddsLink, AddsRecordTo, BeginsOn, NodeDoes, DoesNodeOrder, DropsFile, FindsLink, GoesOnWith, IsNewNode, IsNotDone, MayWantMemory, NoLink, ResendsOn, TakesOn, TakesPacketBy, RenewsOn, about, before_line, given_beside, is_alone, is_work_left_at, is_used, meant, one_link, pieces, receiver_of, sender_of, node_without_file, used_by, waits_on as waits_by};
 
 use crate::answers::{
     push_add_refusal, push_link_refusal, push_node_taken, push_refused, push_remove_refusal,
@@ -27,16 +27,16 @@ use crate::node_orders::{NodeOrder, read_node_order};
 use crate::orders::{Between, set_up_anew, set_up_beside};
 use crate::sending::{has_message, is_left, push_again, say_ack, waits};
 use crate::used::Used;
-use dap_accessed::{ALL_RIGHTS, AddFault, Names, NoMemory, ServerSetup};
+use dap_accessed::{ALL_RIGHTS, AddFault, Asked, Names, NoMemory, ServerSetup};
 use dap_accessing::Octets;
 use dap_end::{EndFault, ServingNode, TakeFault};
 use dap_msg::codes::{ACCESS_REFUSED, REASON_BAD_ATTRIBUTES};
-use dap_text::{FileLine, FilesCursor, RecordLine, Text, push_files_line};
+use dap_text::{FileFault, FileLine, FilesCursor, RecordLine, Text, push_files_line};
 use file_names::is_alike;
 use linewise::{Answer, Answers, Became};
 use nsp_link::{Got, LinkEnd, LinkFault, LinkSetup, is_setup};
 use nsp_seg::{PacketValue, decode_value};
-use rec_file::{Rights, Shape};
+use rec_file::Rights;
 use std::alloc::{AllocError, Global};
 
 /// A server of one link, or of several before one table of files, as an answerer of lines.
@@ -565,21 +565,20 @@ fn is_in_use(node: &Node) -> bool
     node.used.any()
 }
 
-/// Adds a file of a shape, to which the next records belong then.
-fn add_shaped(
+/// Adds a file as it is asked for, to which the next records belong then.
+fn add_new(
     node: &mut Node,
     name: Octets,
-    shape: Shape,
+    asked: Asked,
     text: &mut Vec<u8>,
 ) -> Result<Became, AllocError>
     requires idle { is_used node.old ≡ false }
-    requires shape { IsTrue (is_shape shape) }
+    requires asked { IsAsked asked }
     requires text { text.old.items ≡ [] }
-    ensures ok { IfOk result
-        (AddsShapedTo node.old name shape node.new text.new.items) }
+    ensures ok { IfOk result (AddsNewTo node.old name asked node.new text.new.items) }
     ensures err { OnErr result (node.new ≡ node.old) }
 {
-    match node.node.add(&name.0, shape) {
+    match node.node.add(&name.0, asked) {
         Ok(()) => {
             node.given = Some(name);
             Ok(Became::Done)
@@ -588,25 +587,47 @@ fn add_shaped(
     }
 }
 
-/// Adds a file; where it is refused, no file takes the next records.
+/// Adds a file as it is asked for; where it is refused, no file takes the next records.
+fn add_asked(
+    node: &mut Node,
+    name: &Text<'_>,
+    asked: Asked,
+    text: &mut Vec<u8>,
+) -> Result<Became, AllocError>
+    requires asked { IsAsked asked }
+    requires text { text.old.items ≡ [] }
+    ensures ok { IfOk result
+        (AddsAsked node.old name.now (Ok asked) node.new text.new.items) }
+    ensures err { OnErr result (node.new ≡ node_without_file node.old) }
+{
+    node.given = None;
+    if is_in_use(node) {
+        return push_add_refusal(text, AddFault::Busy);
+    }
+    let name = Octets(name.to_vec(node.alloc)?);
+    add_new(node, name, asked, text)
+}
+
+/// Adds the file of a line; where it is refused, no file takes the next records. A line that says something is kept
+/// which isn't is no line.
 fn add_file(node: &mut Node, file: &FileLine<'_>, text: &mut Vec<u8>) -> Result<Became, AllocError>
     requires { text.old.items ≡ [] }
     ensures ok { IfOk result (AddsFileTo node.old file.now node.new text.new.items) }
     ensures err { OnErr result (node.new ≡ node_without_file node.old) }
 {
-    node.given = None;
-    let shape = match Shape::check(file.org, file.rfm, file.mrs, u64::from(file.mrn)) {
-        Some(shape) => shape,
-        None => {
+    match file.asked(node.alloc) {
+        Ok(asked) => add_asked(node, &file.name, asked, text),
+        Err(FileFault::BadKept) => Ok(Became::BadLine),
+        Err(FileFault::BadAttributes) => {
+            node.given = None;
             push_status(text, ACCESS_REFUSED, REASON_BAD_ATTRIBUTES)?;
-            return Ok(Became::Done);
+            Ok(Became::Done)
         }
-    };
-    if is_in_use(node) {
-        return push_add_refusal(text, AddFault::Busy);
+        Err(FileFault::NoMemory) => {
+            node.given = None;
+            Err(AllocError)
+        }
     }
-    let name = Octets(file.name.to_vec(node.alloc)?);
-    add_shaped(node, name, shape, text)
 }
 
 /// Adds a record to the file of this name, if there is one.

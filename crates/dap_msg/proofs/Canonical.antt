@@ -269,3 +269,12 @@ one_front m other more n h le o =
     let two : message_at (canon m ++ more) ≡ Ok (other, n) = ok_only (canon m ++ more) other n (record { closed = true; there = le; spelled = o; open_is_all = λ t. absurd cc }) in
     let both : ◌≡◌ {A = Message × ℕ} (other, n) (m, length (canon m)) = cc in
     (ap (λ x. x.1) both, ap (λ x. x.0) both)
+
+-- two messages of which the same is written are one
+pub one_written : (m other : Message) → KeepsLimits m → KeepsLimits other → canon other ≡ canon m → other ≡ m
+one_written m other h k e =
+    let one : message_at (canon m ++ []) ≡ Ok (m, length (canon m)) = ok_only (canon m ++ []) m (length (canon m)) (canon_stands m h []) in
+    let two : message_at (canon other ++ []) ≡ Ok (other, length (canon other)) = ok_only (canon other ++ []) other (length (canon other)) (canon_stands other k []) in
+    let same : message_at (canon m ++ []) ≡ Ok (other, length (canon other)) = ap (λ (x : List ℕ). message_at (x ++ [])) (sym e) ∙ two in
+    let both : ◌≡◌ {A = Message × ℕ} (other, length (canon other)) (m, length (canon m)) = cc in
+    ap (λ x. x.0) both

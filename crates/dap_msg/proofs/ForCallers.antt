@@ -12,6 +12,10 @@ pub use Rattle.dap_msg.proofs.Offsets.{are_items}
 pub use Rattle.dap_msg.proofs.Offsets.{read_in_place}
 -- the answers of both ends have spellings, and all but records have short ones
 pub use Rattle.dap_msg.proofs.Extents.{answers_fit}
+-- the Attributes of a file with what else is kept of it have a short spelling, and so has what is kept alone
+pub use Rattle.dap_msg.proofs.Extents.{file_attributes_fit, kept_attributes_fit}
+-- what is written of the latter is bytes
+pub use Rattle.dap_msg.proofs.Octets.{kept_are_bytes}
 -- a Filedata has a spelling
 pub use Rattle.dap_msg.proofs.Extents.{file_data_fits, unnumbered_fits}
 -- the length of a Filedata's spelling
@@ -28,6 +32,8 @@ pub use Rattle.dap_msg.proofs.Read.{item_fits}
 pub use Rattle.dap_msg.proofs.Values.{fields_fit}
 -- those whose values fit have a spelling, and no others
 pub use Rattle.dap_msg.proofs.Values.{spelled_fields}
+-- two messages of which the same is written are one
+pub use Rattle.dap_msg.proofs.Values.{written_once}
 -- a spelling without LENGTH, of a message whose values fit
 pub use Rattle.dap_msg.proofs.Canonical.{open_spelling}
 -- the type of a message that was read is one byte

@@ -1,5 +1,5 @@
 -- What was read: a message is one that some bytes are.
-use Rattle.std.proofs.Common.{◌≡◌, refl, subst}
+use Rattle.std.proofs.Common.{◌≡◌, refl}
 use Rattle.dap_msg.specs.Decoding.{IsSpelled}
 use Rattle.dap_msg.specs.Items.{Item, Whole, Malformed}
 use Rattle.dap_msg.specs.Message.{Message}

@@ -9,11 +9,10 @@ use Rattle.dap_msg.specs.Grammar.{Kind, Byte, Word, Extensible, Image, ValueOf, 
 use Rattle.dap_msg.specs.Message.{Header, Message, Filedata, Other, length_of}
 use Rattle.dap_msg.specs.Formats.{header, configuration_format, attributes_format, access_format, control_format, continuation_format, acknowledge_format, completion_format, file_data_format, status_format, other_format, operand, type_number}
 use Rattle.dap_msg.specs.Decoding.{HasLength, SpellsMessage, IsDecoded, IsSpelled}
-use Rattle.dap_msg.specs.Canon.{Fits}
-use Rattle.dap_msg.specs.Canon.{operand_bytes}
+use Rattle.dap_msg.specs.Canon.{Fits, canon, operand_bytes}
 use Rattle.dap_msg.specs.Fitting.{FitsField, FitsOption, FieldsFit, KeepsLimits}
 use Rattle.dap_msg.specs.Inner.Refusals.{refuses_type}
-use Rattle.dap_msg.proofs.Canonical.{open_spelling}
+use Rattle.dap_msg.proofs.Canonical.{one_written, open_spelling}
 use Rattle.dap_msg.proofs.Sizes.{plain_short}
 use Rattle.dap_msg.proofs.Extents.{file_data_operand}
 
@@ -156,3 +155,7 @@ limits m f =
 pub read_spelled : (bytes : List ℕ) (result : Result (Message × ℕ) MsgFault) → IsDecoded bytes result → IfOk result (λ x. IsSpelled x.0)
 read_spelled bytes (Ok x) a = (take x.1 bytes, a.closed, a.spelled)
 read_spelled bytes (Err f) a = tt
+
+-- two messages that fit, of which the same is written, are one
+pub written_once : (m other : Message) → Fits m → Fits other → canon other ≡ canon m → other ≡ m
+written_once m other f g e = one_written m other (limits m f) (limits other g) e

@@ -23,8 +23,8 @@ use Rattle.dap_network.proofs.Blocks.{block_of, blocked_own}
 use Rattle.dap_network.proofs.Histories.{IsSame, items_own, link_there, same}
 use Rattle.dap_network.specs.GivenFiles.{AreGiven, IsGiven}
 use Rattle.dap_network.proofs.SoundNode.{given_more}
-use Rattle.rec_file.specs.declared.shapes.Shape.{Shape}
-use Rattle.rec_file.specs.Shapes.{is_shape}
+use Rattle.dap_accessed.specs.declared.asked.Asked.{Asked}
+use Rattle.dap_accessed.specs.Asked.{IsAsked}
 use Rattle.dap_accessed.specs.Adding.{MayStore}
 use Rattle.dap_network.proofs.Standing.{PortGrew, PortStands, grew_none, grew_on, grew_posted, grew_served, stands_posted, stands_served}
 
@@ -44,7 +44,7 @@ module _ (own : ServerSetup) (links : ℕ) (first : Files) where
       ∙ ap (λ (n : ℕ). FilesAfter own first n history) h.as_many
 
   -- what is given of the files may be given after the history
-  pub may_file : (history : List Event) (v : SharedValue) (name : List ℕ) (shape : Shape) → Stays history v → IsTrue (is_shape shape) → index_by v.setup.names name v.files ≡ None → IsGiven own (node_after own first links history) (Gives name shape)
+  pub may_file : (history : List Event) (v : SharedValue) (name : List ℕ) (shape : Asked) → Stays history v → IsAsked shape → index_by v.setup.names name v.files ≡ None → IsGiven own (node_after own first links history) (Gives name shape)
   may_file history v name shape h good none =
       (good, subst (λ (l : Files). index_by own.names name l ≡ None) (files_are history v h) (subst (λ (o : ServerSetup). index_by o.names name v.files ≡ None) h.is_own none))
 

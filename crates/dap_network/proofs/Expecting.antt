@@ -4,7 +4,7 @@ use Rattle.std.specs.Prelude.{Option, Some, None, get_or, if◌then◌else◌}
 use Rattle.std.proofs.Math.ListN.{get_or-map}
 use Rattle.std.proofs.lemmas.List.{append-nil, get_or-set_other, get_or-set_same, length-map}
 use Rattle.rec_file.specs.declared.picks.Rights.{Rights}
-use Rattle.rec_file.specs.declared.shapes.Shape.{Shape}
+use Rattle.dap_accessed.specs.declared.asked.Asked.{Asked as NewFile}
 use Rattle.dap_fields.specs.Spelling.{AreBytes}
 use Rattle.dap_msg.specs.declared.message.Configuration.{Configuration}
 use Rattle.dap_msg.specs.declared.items.Item.{Item}
@@ -167,7 +167,7 @@ module _ (own : ServerSetup) (links : ℕ) (first : Files) where
       keeps_by j history (Begins link most) (another_begins own links first j link most history apart).items None (get_or-set_other (node_at history).exchanges link j (new_exchange most) no_exchange apart)
 
   -- a file was given, or a record, or a file was dropped
-  pub keeps_file : (j : ℕ) (history : List Event) (name : List ℕ) (shape : Shape) → Keeps j history (history ++ Gives name shape ∷ [])
+  pub keeps_file : (j : ℕ) (history : List Event) (name : List ℕ) (asked : NewFile) → Keeps j history (history ++ Gives name asked ∷ [])
   keeps_file j history name shape = keeps_by j history (Gives name shape) (file_given own links first j history name shape).items None refl
 
   pub keeps_record : (j : ℕ) (history : List Event) (at number : ℕ) (body : List ℕ) → Keeps j history (history ++ GivesRecord at number body ∷ [])

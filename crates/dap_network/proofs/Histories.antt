@@ -3,7 +3,7 @@ use Rattle.std.proofs.Common.{◌≡◌, ◌≢◌, ℕ, zero, suc, ◌<◌, Boo
 use Rattle.std.specs.Prelude.{◌==◌, get_or, if◌then◌else◌, set}
 use Rattle.std.proofs.lemmas.Bool.{ne_eqb}
 use Rattle.std.proofs.lemmas.List.{append-nil, get_or-set_other}
-use Rattle.rec_file.specs.declared.shapes.Shape.{Shape}
+use Rattle.dap_accessed.specs.declared.asked.Asked.{Asked}
 use Rattle.rec_file.specs.declared.picks.Rights.{Rights}
 use Rattle.dap_msg.specs.declared.items.Item.{Item}
 use Rattle.dap_accessed.specs.declared.setup.ServerSetup.{ServerSetup}
@@ -99,7 +99,7 @@ module _ (own : ServerSetup) (links : ℕ) (first : Files) where
   pub another_begins : (link other : ℕ) (most : Rights) (history : List Event) → link ≢ other → IsSame link history (history ++ Begins other most ∷ [])
   another_begins link other most history d = record { items = items_left link other most history d; answers = answers_left link other most history d }
 
-  pub file_given : (link : ℕ) (history : List Event) (name : List ℕ) (shape : Shape) → IsSame link history (history ++ Gives name shape ∷ [])
+  pub file_given : (link : ℕ) (history : List Event) (name : List ℕ) (shape : Asked) → IsSame link history (history ++ Gives name shape ∷ [])
   file_given link history name shape =
       record {
         items = items_more link [] history (Gives name shape ∷ []);

@@ -13,7 +13,8 @@ use Rattle.dap_accessed.specs.Groups.{GroupedItems, after_item, next_group}
 use Rattle.dap_accessed.specs.Replies.{bare_status}
 use Rattle.dap_accessed.specs.Setup.{all_rights, same_name}
 use Rattle.dap_accessed.specs.Sound.{AreFiles, IsOpenAt, IsSound}
-use Rattle.dap_accessed.specs.Standing.{Files, ServerState, Fresh, Ready, Opened, Connected, Store, Stopped, file_at, new_file}
+use Rattle.dap_accessed.specs.Standing.{Files, ServerState, Fresh, Ready, Opened, Connected, Store, Stopped, file_at}
+use Rattle.dap_accessed.specs.Asked.{made_file}
 use Rattle.dap_accessed.specs.declared.phase.OpenFile.{OpenFile}
 use Rattle.dap_accessed.specs.declared.setup.ServerSetup.{ServerSetup}
 use Rattle.dap_accessed.proofs.ForCallers.{stored-file, more-sound, all-without, distinct-more, distinct-with, distinct-without, file-there, files-more, files-with, none-passes, none_exact, more-leaves}
@@ -135,7 +136,7 @@ event_apart own node (Serves link item) g h =
     apart_lock its c item h (is_locked others (asks_to_open its c.standing.scene.files c.standing.state item))
 event_apart own node (Begins link most) g h = h
 event_apart own node (Gives name shape) g h =
-    distinct-more (λ one other. same_name own.names one other) node.files (name, new_file shape) h (none-passes (λ (f : List ℕ × _). same_name own.names f.0 name) node.files g.1)
+    distinct-more (λ one other. same_name own.names one other) node.files (name, made_file shape) h (none-passes (λ (f : List ℕ × _). same_name own.names f.0 name) node.files g.1)
 event_apart own node (GivesRecord at number body) g h =
     distinct-with (λ one other. same_name own.names one other) node.files at (file_with_record (file_at at node.files) number body) h
 event_apart own node (Drops at) g h = apart_drop own node at h (is_open at node)

@@ -1,8 +1,8 @@
 -- A serving node, whoever its peers are: what happens to it, one after another.
 use Rattle.std.specs.Prelude.{◌≡◌, ℕ, ◌<◌, ◌==◌, if◌then◌else◌, IsTrue, List, [], ◌∷◌, ◌++◌, length, map, set, Option, None, Some}
-use Rattle.rec_file.specs.declared.shapes.Shape.{Shape}
+use Rattle.dap_accessed.specs.declared.asked.Asked.{Asked}
 use Rattle.rec_file.specs.declared.picks.Rights.{Rights}
-use Rattle.rec_file.specs.Shapes.{is_shape}
+use Rattle.dap_accessed.specs.Asked.{IsAsked}
 use Rattle.nsp_link.specs.declared.link.LinkSetup.{LinkSetup}
 use Rattle.nsp_link.specs.Link.{IsSetup, LinkValue}
 use Rattle.dap_accessed.specs.Adding.{MayStore}
@@ -48,11 +48,11 @@ pub data NodeEvent : Type 0 where
   WroteAgain : (link : ℕ) → (index : Option ℕ) → WrittenPacket → NodeEvent
   GotLink : (link : ℕ) → LinkSetup → (most : Rights) → NodeEvent
   LostLink : (link : ℕ) → NodeEvent
-  GotFile : (name : List ℕ) → Shape → NodeEvent
+  GotFile : (name : List ℕ) → Asked → NodeEvent
   GotRecord : (at number : ℕ) → (body : List ℕ) → NodeEvent
   LostFile : (at : ℕ) → NodeEvent
 
--- What each of these does. Anything may come. A file that is given has a new name and a shape that the check gives, and
+-- What each of these does. Anything may come. A file that is given has a new name, and may be made so, and
 -- a record is one that its file takes.
 abbrev pub NodeStepped : NodeValue → NodeEvent → NodeValue → Type 0
 NodeStepped old (PacketCame link c) new = LinkStepped link (λ v bytes. v ≡ c.0) old (Came c.1) [] new
@@ -60,9 +60,9 @@ NodeStepped old (Continued link wrote) new = LinkStepped link (λ v bytes. Unit 
 NodeStepped old (WroteAgain link index w) new = LinkStepped link (λ v bytes. Unit {0}) old (Repeats index) (w ∷ []) new
 NodeStepped old (GotLink link setup most) new = IsSetup setup × BeganOn link setup most old new
 NodeStepped old (LostLink link) new = EndedOn link old new
-NodeStepped old (GotFile name shape) new =
+NodeStepped old (GotFile name asked) new =
     let v = old.noted.shared in
-    IsTrue (is_shape shape) × (index_by v.setup.names name v.files ≡ None) × SharedGiven (Gives name shape) v new.noted.shared × (new.ports ≡ old.ports)
+    IsAsked asked × (index_by v.setup.names name v.files ≡ None) × SharedGiven (Gives name asked) v new.noted.shared × (new.ports ≡ old.ports)
 NodeStepped old (GotRecord at number body) new =
     let v = old.noted.shared in
     (at < length v.files) × MayStore (file_at at v.files) number body × SharedGiven (GivesRecord at number body) v new.noted.shared × (new.ports ≡ old.ports)

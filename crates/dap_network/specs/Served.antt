@@ -31,7 +31,7 @@ AddsTo (Continued link wrote) told = (items : List Item) × (told ≡ map (Serve
 AddsTo (WroteAgain link index w) told = told ≡ []
 AddsTo (GotLink link setup most) told = told ≡ Begins link most ∷ []
 AddsTo (LostLink link) told = told ≡ Begins link all_rights ∷ []
-AddsTo (GotFile name shape) told = told ≡ Gives name shape ∷ []
+AddsTo (GotFile name asked) told = told ≡ Gives name asked ∷ []
 AddsTo (GotRecord at number body) told = told ≡ GivesRecord at number body ∷ []
 AddsTo (LostFile at) told = told ≡ Drops at ∷ []
 

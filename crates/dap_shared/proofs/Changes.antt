@@ -14,7 +14,8 @@ use Rattle.dap_msg.specs.declared.message.ControlFields.{ControlFields}
 use Rattle.dap_msg.specs.declared.message.Message.TheVariants.{Config, Access, Control, Contran, Accomp, Filedata}
 use Rattle.dap_msg.specs.declared.items.Item.{Item}
 use Rattle.dap_msg.specs.declared.items.Item.TheVariants.{Whole, Malformed}
-use Rattle.rec_file.specs.declared.shapes.Shape.{Shape}
+use Rattle.dap_accessed.specs.declared.asked.Asked.{Asked}
+use Rattle.dap_accessed.specs.Asked.{made_file}
 use Rattle.rec_file.specs.declared.picks.Rights.{Rights}
 use Rattle.rec_file.specs.declared.picks.Pick.{Pick}
 use Rattle.rec_file.specs.declared.refusals.Refusal.{Refusal}
@@ -24,8 +25,8 @@ use Rattle.rec_file.specs.Acts.{Operation, StreamVal, outcome_of, act, get_recor
 use Rattle.dap_accessed.specs.declared.phase.OpenFile.{OpenFile}
 use Rattle.dap_accessed.specs.declared.verbs.Verb.{Verb}
 use Rattle.dap_accessed.specs.declared.verbs.Verb.TheVariants as verbs
-use Rattle.dap_accessed.specs.Standing.{Files, index_by, index_to_erase, file_at, with_file, the_file, new_file, ServerState, Fresh, Ready, Opened, Connected, Store, Stopped, Group, Standing, Scene, Effect, enters}
-use Rattle.dap_accessed.specs.Past.{asked_shape, kept_attributes, is_dropping, ordinal_so_far}
+use Rattle.dap_accessed.specs.Standing.{Files, index_by, index_to_erase, file_at, with_file, the_file, ServerState, Fresh, Ready, Opened, Connected, Store, Stopped, Group, Standing, Scene, Effect, enters}
+use Rattle.dap_accessed.specs.Past.{asked_file, kept_attributes, is_dropping, ordinal_so_far}
 use Rattle.dap_accessed.specs.Accesses.{make_file, open_file, create_file, erase_file, access_file, end_stream, complete, refuse_access, rights_to_create, rights_to_erase, rights_to_open}
 use Rattle.dap_accessed.specs.Replies.{erased_with, opened_with, reason_of, refused_access}
 use Rattle.dap_accessed.specs.Setup.{asks_for_one, lacks}
@@ -145,7 +146,7 @@ module _ (scene : Scene) (asks : Option OpenFile) where
 
   opening-if : (own : ServerSetup) (a : AccessFields) (at : ℕ) (lack : Bool) → lacks own.most (rights_to_open a.fac) ≡ lack → asks ≡ would_open own scene.files a → index_by own.names a.name scene.files ≡ Some at
       → (a.func == codes.accfunc.opening) ≡ true
-      → Left None (if lack then refuse_access scene (refused_access (reason_of NotPermitted)) else enters scene (Opened (there_at a.fac at)) (opened_with (file_at at scene.files).shape))
+      → Left None (if lack then refuse_access scene (refused_access (reason_of NotPermitted)) else enters scene (Opened (there_at a.fac at)) (opened_with (file_at at scene.files).shape (file_at at scene.files).look))
   opening-if own a at true l w p e = entering Ready _ tt
   opening-if own a at false l w p e =
       let found = index_by own.names a.name scene.files in
@@ -160,11 +161,11 @@ module _ (scene : Scene) (asks : Option OpenFile) where
   opening own a None w p e = entering Ready _ tt
   opening own a (Some at) w p e = opening-if own a at (lacks own.most (rights_to_open a.fac)) refl w p e
 
-  making : (name : List ℕ) (fac : ℕ) (shape : Option Shape) → Left None (make_file scene name fac shape)
+  making : (name : List ℕ) (fac : ℕ) (shape : Option Asked) → Left None (make_file scene name fac shape)
   making name fac None = entering Ready _ tt
-  making name fac (Some shape) = record { moved = makes (name, new_file shape) _ refl; rights = tt }
+  making name fac (Some shape) = record { moved = makes (name, made_file shape) _ refl; rights = tt }
 
-  creating : (own : ServerSetup) (name : List ℕ) (fac : ℕ) (at : Option ℕ) (shape : Option Shape) → Left None (create_file own scene name fac at shape)
+  creating : (own : ServerSetup) (name : List ℕ) (fac : ℕ) (at : Option ℕ) (shape : Option Asked) → Left None (create_file own scene name fac at shape)
   creating own name fac (Some at) shape = entering Ready _ tt
   creating own name fac None shape = either None (lacks own.most (rights_to_create fac)) _ _ (entering Ready _ tt) (making name fac shape)
 
@@ -187,7 +188,7 @@ module _ (scene : Scene) (asks : Option OpenFile) where
       w ∙ ap (λ (x : Bool). if x then there_if own a.fac (index_by own.names a.name scene.files) else (if own.full && a.func == codes.accfunc.erasing then erased_if own found else None)) none
       ∙ ap (λ (x : Bool). if x then erased_if own found else None) e
 
-  accessing : (own : ServerSetup) (a : AccessFields) (shape : Option Shape) → asks ≡ would_open own scene.files a → Left None (access_file own scene a shape)
+  accessing : (own : ServerSetup) (a : AccessFields) (shape : Option Asked) → asks ≡ would_open own scene.files a → Left None (access_file own scene a shape)
   accessing own a shape w =
       let found = index_by own.names a.name scene.files in
       let erased = index_to_erase own.names a.name scene.files in
@@ -293,7 +294,7 @@ module _ (scene : Scene) (asks : Option OpenFile) where
   of-message : (own : ServerSetup) (past : List Group) (state : ServerState) → HasRights state → (m : Message) → asks ≡ asks_to_open own scene.files state (Whole m) → LeftIn (open_in state) (turn_in own scene past state m)
   of-message own past Fresh h (Config c) w = either None (is_too_small c.bufsiz) _ _ (entering Fresh _ tt) (record { moved = keeps None; rights = tt })
   of-message own past Fresh h m w = entering Fresh _ tt
-  of-message own past Ready h (Access a) w = accessing own a (asked_shape (kept_attributes past)) w
+  of-message own past Ready h (Access a) w = accessing own a (asked_file own.full (kept_attributes past)) w
   of-message own past Ready h m w = entering Ready _ tt
   of-message own past (Opened o) h (Control c) w = opened-control o (verb_of c)
   of-message own past (Opened o) h (Accomp c) w = completed c.func o (Opened o) refl h

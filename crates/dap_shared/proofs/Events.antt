@@ -13,10 +13,11 @@ use Rattle.dap_accessed.specs.Replies.{bare_status}
 use Rattle.rec_file.specs.Files.{file_with_record}
 use Rattle.rec_file.specs.declared.picks.Rights.{Rights}
 use Rattle.dap_accessed.specs.Adding.{with_new_file}
+use Rattle.dap_accessed.specs.Asked.{made_file}
 use Rattle.dap_accessed.specs.Sessions.{moved_up}
 use Rattle.dap_accessed.proofs.ForCallers.{length-with}
 use Rattle.dap_accessed.specs.Setup.{all_rights}
-use Rattle.dap_accessed.specs.Standing.{file_at, new_file, Files, ServerState, Fresh, Ready, Opened, Connected, Store, Stopped}
+use Rattle.dap_accessed.specs.Standing.{file_at, Files, ServerState, Fresh, Ready, Opened, Connected, Store, Stopped}
 use Rattle.dap_accessed.specs.Accesses.{refuse_access}
 use Rattle.dap_accessed.specs.Effects.{Begun, Does}
 use Rattle.dap_accessed.specs.Groups.{GroupedItems}
@@ -370,9 +371,9 @@ all-share own links node (Serves link item ∷ events) n o h =
     all-share own links (after_event own node (Serves link item)) events (count-item own node link item ∙ n) o.1 (item-shares own node link item (omega (arith, n, o.0)) h)
 all-share own links node (Begins link most ∷ events) n o h =
     all-share own links (after_event own node (Begins link most)) events (length-set node.exchanges link (new_exchange most) ∙ n) o.1 (begin-shares own node link most h)
-all-share own links node (Gives name shape ∷ events) n o h =
-    let longer = length-append node.files ((name, new_file shape) ∷ []) in
-    all-share own links (after_event own node (Gives name shape)) events n o (given-shares node (with_new_file name shape node.files) (omega (arith, longer)) h)
+all-share own links node (Gives name asked ∷ events) n o h =
+    let longer = length-append node.files ((name, made_file asked) ∷ []) in
+    all-share own links (after_event own node (Gives name asked)) events n o (given-shares node (with_new_file name asked node.files) (omega (arith, longer)) h)
 all-share own links node (GivesRecord at number body ∷ events) n o h =
     let same = length-with node.files at (file_with_record (file_at at node.files) number body) in
     all-share own links (after_event own node (GivesRecord at number body)) events n o (given-shares node (with_record_at at number body node.files) (omega (arith, same)) h)

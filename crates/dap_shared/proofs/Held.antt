@@ -11,7 +11,7 @@ use Rattle.std.proofs.Math.ListN.{get_or-map}
 use Rattle.dap_accessed.specs.declared.setup.ServerSetup.{ServerSetup}
 use Rattle.dap_accessed.specs.Setup.{IsServerSetup}
 use Rattle.dap_msg.specs.declared.items.Item.{Item}
-use Rattle.rec_file.specs.declared.shapes.Shape.{Shape}
+use Rattle.dap_accessed.specs.declared.asked.Asked.{Asked}
 use Rattle.rec_file.specs.declared.picks.Rights.{Rights}
 use Rattle.rec_file.specs.Files.{FileVal}
 use Rattle.dap_accessed.specs.declared.fault.AddFault.{AddFault}
@@ -169,9 +169,9 @@ drops-held v at h closed =
           (phase-number at (session_at v.setup i v.sessions).phase (h.numbers i));
     }
 
-pub gives-shared : (v : SharedValue) (name : List ℕ) (shape : Shape) (files : Files) → files ≡ with_new_file name shape v.files → SharedGiven (Gives name shape) v (record v { files = files })
-gives-shared v name shape files e =
-    subst (λ (t : Files). SharedGiven (Gives name shape) v (record v { files = t })) (sym e) (given-shared v (Gives name shape) (with_new_file name shape) (λ links. tt) (λ node. refl))
+pub gives-shared : (v : SharedValue) (name : List ℕ) (asked : Asked) (files : Files) → files ≡ with_new_file name asked v.files → SharedGiven (Gives name asked) v (record v { files = files })
+gives-shared v name asked files e =
+    subst (λ (t : Files). SharedGiven (Gives name asked) v (record v { files = t })) (sym e) (given-shared v (Gives name asked) (with_new_file name asked) (λ links. tt) (λ node. refl))
 
 pub gives-record : (v : SharedValue) (at number : ℕ) (body : List ℕ) (files : Files) → files ≡ with_record_at at number body v.files → SharedGiven (GivesRecord at number body) v (record v { files = files })
 gives-record v at number body files e =

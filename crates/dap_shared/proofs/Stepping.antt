@@ -14,7 +14,8 @@ use Rattle.dap_msg.specs.declared.message.Message.{Message}
 use Rattle.dap_msg.specs.declared.message.Message.TheVariants.{Access}
 use Rattle.dap_msg.specs.declared.items.Item.{Item}
 use Rattle.dap_msg.specs.declared.items.Item.TheVariants.{Whole, Malformed}
-use Rattle.rec_file.specs.declared.shapes.Shape.{Shape}
+use Rattle.dap_accessed.specs.declared.asked.Asked.{Asked}
+use Rattle.dap_accessed.specs.Asked.{plainly}
 use Rattle.rec_file.specs.declared.picks.Rights.{Rights}
 use Rattle.rec_file.specs.Acts.{StreamVal}
 use Rattle.dap_accessed.specs.declared.phase.OpenFile.{OpenFile}
@@ -54,23 +55,23 @@ within-moved : (r : ℕ) (change : Change) (o : OpenFile) (s : StreamVal) → ph
 within-moved r (Putting key) o s = refl
 within-moved r Updating o s = refl
 
-at-moved : (r : ℕ) (past : List Group) (state : ServerState) → phase_at (state_moved_up r state) (looked_back (state_moved_up r state) past) ≡ phase_moved_up r (phase_at state (looked_back state past))
-at-moved r past Fresh = refl
-at-moved r past Ready = refl
-at-moved r past (Opened o) = refl
-at-moved r past (Connected o s) = refl
-at-moved r past (Store o s) = store-moved r (is_dropping past) o s (ordinal_so_far past)
-at-moved r past (Stopped o s) = refl
+at-moved : (full : Bool) (r : ℕ) (past : List Group) (state : ServerState) → phase_at (state_moved_up r state) (looked_back full (state_moved_up r state) past) ≡ phase_moved_up r (phase_at state (looked_back full state past))
+at-moved full r past Fresh = refl
+at-moved full r past Ready = refl
+at-moved full r past (Opened o) = refl
+at-moved full r past (Connected o s) = refl
+at-moved full r past (Store o s) = store-moved r (is_dropping past) o s (ordinal_so_far past)
+at-moved full r past (Stopped o s) = refl
 
-phase-moved : (r : ℕ) (files : Files) (exchange : Exchange) (begun : Option Begun) →
-    phase_of (before_files files (record exchange { state = state_moved_up r exchange.state })).standing (option_map (begun_moved_up r) begun) ≡ phase_moved_up r (phase_of (before_files files exchange).standing begun)
-phase-moved r files exchange None = at-moved r exchange.past exchange.state
-phase-moved r files exchange (Some b) = within-moved r b.change b.opened b.stream
+phase-moved : (full : Bool) (r : ℕ) (files : Files) (exchange : Exchange) (begun : Option Begun) →
+    phase_of full (before_files files (record exchange { state = state_moved_up r exchange.state })).standing (option_map (begun_moved_up r) begun) ≡ phase_moved_up r (phase_of full (before_files files exchange).standing begun)
+phase-moved full r files exchange None = at-moved full r exchange.past exchange.state
+phase-moved full r files exchange (Some b) = within-moved r b.change b.opened b.stream
 
 exchange-moved : (own : ServerSetup) (files after : Files) (r : Option OpenFile) (exchange : Exchange) → session_of_exchange own after (exchange_moved_up r exchange) ≡ session_moved_up r (session_of_exchange own files exchange)
 exchange-moved own files after None exchange = refl
 exchange-moved own files after (Some removed) exchange =
-    ap (λ (p : Phase). let s = session_of_exchange own files exchange in let t : SessionValue = record { own = s.own; setup = s.setup; limit = s.limit; kept = s.kept; phase = p } in t) (phase-moved removed.at files exchange exchange.begun)
+    ap (λ (p : Phase). let s = session_of_exchange own files exchange in let t : SessionValue = record { own = s.own; setup = s.setup; limit = s.limit; kept = s.kept; phase = p } in t) (phase-moved own.full removed.at files exchange exchange.begun)
 
 exchanges-moved : (own : ServerSetup) (files after : Files) (r : Option OpenFile) (exchanges : List Exchange) → map (session_of_exchange own after) (map (exchange_moved_up r) exchanges) ≡ map (session_moved_up r) (map (session_of_exchange own files) exchanges)
 exchanges-moved own files after r [] = refl
@@ -84,13 +85,13 @@ store-open : (d : Bool) (o : OpenFile) (s : StreamVal) (n : ℕ) → open_at (if
 store-open true o s n = refl
 store-open false o s n = refl
 
-state-open : (past : List Group) (state : ServerState) → open_at (phase_at state (looked_back state past)) ≡ open_in state
-state-open past Fresh = refl
-state-open past Ready = refl
-state-open past (Opened o) = refl
-state-open past (Connected o s) = refl
-state-open past (Store o s) = store-open (is_dropping past) o s (ordinal_so_far past)
-state-open past (Stopped o s) = refl
+state-open : (full : Bool) (past : List Group) (state : ServerState) → open_at (phase_at state (looked_back full state past)) ≡ open_in state
+state-open full past Fresh = refl
+state-open full past Ready = refl
+state-open full past (Opened o) = refl
+state-open full past (Connected o s) = refl
+state-open full past (Store o s) = store-open (is_dropping past) o s (ordinal_so_far past)
+state-open full past (Stopped o s) = refl
 
 within-open : (change : Change) (o : OpenFile) (s : StreamVal) → open_at (phase_within change o s) ≡ Some o
 within-open (Putting key) o s = refl
@@ -100,9 +101,9 @@ within-open Updating o s = refl
 abbrev IsBegun : ServerState → Option Begun → Type 0
 IsBegun state begun = IfSome begun (λ b. (open_in state ≡ Some b.opened) × (b.stream.rights ≡ b.opened.rights))
 
-phase-open : (s : Standing) (begun : Option Begun) → IsBegun s.state begun → open_at (phase_of s begun) ≡ open_in s.state
-phase-open s None h = state-open s.past s.state
-phase-open s (Some b) h = within-open b.change b.opened b.stream ∙ sym h.0
+phase-open : (full : Bool) (s : Standing) (begun : Option Begun) → IsBegun s.state begun → open_at (phase_of full s begun) ≡ open_in s.state
+phase-open full s None h = state-open full s.past s.state
+phase-open full s (Some b) h = within-open b.change b.opened b.stream ∙ sym h.0
 
 store-asks : (own : ServerSetup) (files : Files) (item : Item) (d : Bool) (o : OpenFile) (s : StreamVal) (n : ℕ) → asked_in own files (if d then phases.Dropping o s n else phases.Storing o s n) item ≡ None
 store-asks own files item true o s n = refl
@@ -113,13 +114,13 @@ ready-asks own files (Malformed fault) = refl
 ready-asks own files (Whole (Access a)) = refl
 ready-asks own files (Whole message) = refl
 
-state-asks : (own : ServerSetup) (files : Files) (past : List Group) (state : ServerState) (item : Item) → asked_in own files (phase_at state (looked_back state past)) item ≡ asks_to_open own files state item
-state-asks own files past Fresh item = refl
-state-asks own files past Ready item = ready-asks own files item
-state-asks own files past (Opened o) item = refl
-state-asks own files past (Connected o s) item = refl
-state-asks own files past (Store o s) item = store-asks own files item (is_dropping past) o s (ordinal_so_far past)
-state-asks own files past (Stopped o s) item = refl
+state-asks : (full : Bool) (own : ServerSetup) (files : Files) (past : List Group) (state : ServerState) (item : Item) → asked_in own files (phase_at state (looked_back full state past)) item ≡ asks_to_open own files state item
+state-asks full own files past Fresh item = refl
+state-asks full own files past Ready item = ready-asks own files item
+state-asks full own files past (Opened o) item = refl
+state-asks full own files past (Connected o s) item = refl
+state-asks full own files past (Store o s) item = store-asks own files item (is_dropping past) o s (ordinal_so_far past)
+state-asks full own files past (Stopped o s) item = refl
 
 within-asks : (own : ServerSetup) (files : Files) (change : Change) (o : OpenFile) (s : StreamVal) (item : Item) → asked_in own files (phase_within change o s) item ≡ None
 within-asks own files (Putting key) o s item = refl
@@ -133,18 +134,18 @@ none-asked own files (Connected p s) o item e = refl
 none-asked own files (Store p s) o item e = refl
 none-asked own files (Stopped p s) o item e = refl
 
-phase-asks : (own : ServerSetup) (files : Files) (s : Standing) (begun : Option Begun) (item : Item) → IsBegun s.state begun → asked_in own files (phase_of s begun) item ≡ asks_to_open own files s.state item
-phase-asks own files s None item h = state-asks own files s.past s.state item
-phase-asks own files s (Some b) item h = within-asks own files b.change b.opened b.stream item ∙ sym (none-asked own files s.state b.opened item h.0)
+phase-asks : (full : Bool) (own : ServerSetup) (files : Files) (s : Standing) (begun : Option Begun) (item : Item) → IsBegun s.state begun → asked_in own files (phase_of full s begun) item ≡ asks_to_open own files s.state item
+phase-asks full own files s None item h = state-asks full own files s.past s.state item
+phase-asks full own files s (Some b) item h = within-asks own files b.change b.opened b.stream item ∙ sym (none-asked own files s.state b.opened item h.0)
 
 -- ---- What bars it.
 
 pub open-kept : (own : ServerSetup) (files : Files) (exchange : Exchange) → IsSteadyExchange exchange → open_at (session_of_exchange own files exchange).phase ≡ open_on exchange
-open-kept own files exchange h = phase-open (before_files files exchange).standing exchange.begun h.begun
+open-kept own files exchange h = phase-open own.full (before_files files exchange).standing exchange.begun h.begun
 
 -- what is asked for on a link, with its rights
 asks-kept : (own its : ServerSetup) (files : Files) (exchange : Exchange) (item : Item) → IsSteadyExchange exchange → asked_in its files (session_of_exchange own files exchange).phase item ≡ asks_to_open its files exchange.state item
-asks-kept own its files exchange item h = phase-asks its files (before_files files exchange).standing exchange.begun item h.begun
+asks-kept own its files exchange item h = phase-asks own.full its files (before_files files exchange).standing exchange.begun item h.begun
 
 -- what a session asks to open
 abbrev pub asked_by : (s : SessionValue) → Files → Item → Option OpenFile
@@ -218,9 +219,9 @@ locked_group own s item = next_group own s item (Does (refuse_access s.scene (ba
 
 refused-by : (own : ServerSetup) (others : List (Option OpenFile)) (scene : Scene) (past : List Group) (state : ServerState) (item : Item) → is_locked others (asks_to_open own scene.files state item) ≡ true →
     let s : Standing = record { scene = scene; state = state; past = past } in
-    session_of (present_of own (locked_group own s item)) ≡ record { own = own.identity.bufsiz; setup = own; limit = scene.limit; kept = Some plain_shape; phase = phases.Ready }
+    session_of (present_of own (locked_group own s item)) ≡ record { own = own.identity.bufsiz; setup = own; limit = scene.limit; kept = Some (plainly plain_shape); phase = phases.Ready }
 refused-by own others scene past Ready (Whole (Access a)) e =
-    ap (λ (k : Option Shape). let t : SessionValue = record { own = own.identity.bufsiz; setup = own; limit = scene.limit; kept = k; phase = phases.Ready } in t) (access-keeps past a (bare_status file_locked ∷ []))
+    ap (λ (k : Option Asked). let t : SessionValue = record { own = own.identity.bufsiz; setup = own; limit = scene.limit; kept = k; phase = phases.Ready } in t) (access-keeps own.full past a (bare_status file_locked ∷ []))
 refused-by own others scene past Ready (Whole message) e = cc
 refused-by own others scene past Ready (Malformed fault) e = cc
 refused-by own others scene past Fresh item e = cc
@@ -266,7 +267,7 @@ module _ (own : ServerSetup) (node : Node) (link : ℕ) (item : Item) (h : IsSha
 
   lock-is : is_barred kept_beside (asked_by session node.files item) ≡ is_locked others asked
   lock-is =
-      ap (is_barred kept_beside) (phase-asks its node.files before.standing before.begun item (h.steady link).begun)
+      ap (is_barred kept_beside) (phase-asks own.full its node.files before.standing before.begun item (h.steady link).begun)
       ∙ ap (λ (l : List SessionValue). is_barred l asked) (sym (map-set kept node.exchanges link no_exchange))
       ∙ barred-is own node.files asked (set node.exchanges link no_exchange) steady-beside
 
@@ -325,8 +326,8 @@ module _ (own : ServerSetup) (node : Node) (link : ℕ) (item : Item) (h : IsSha
       let asks = asked_by session node.files item in
       let g = gone_by asks node.files files session.phase in
       let same : r ≡ g =
-      ap (λ (x : Option OpenFile). if nat_lt (length d.standing.scene.files) (length node.files) then option_or x asked else None) (sym (phase-open before.standing before.begun (h.steady link).begun))
-      ∙ ap (λ (x : Option OpenFile). gone_by x node.files d.standing.scene.files session.phase) (sym (phase-asks its node.files before.standing before.begun item (h.steady link).begun))
+      ap (λ (x : Option OpenFile). if nat_lt (length d.standing.scene.files) (length node.files) then option_or x asked else None) (sym (phase-open own.full before.standing before.begun (h.steady link).begun))
+      ∙ ap (λ (x : Option OpenFile). gone_by x node.files d.standing.scene.files session.phase) (sym (phase-asks own.full its node.files before.standing before.begun item (h.steady link).begun))
       ∙ ap (λ (l : Files). gone_by asks node.files l session.phase) (sym left.same_files) in
       ap (value d.standing.scene.files)
       (map-set (session_of_exchange own d.standing.scene.files) (map (exchange_moved_up r) node.exchanges) link (exchange_of most d)
@@ -464,13 +465,13 @@ begins-shared old link most lt =
       same_links = links;
     }
 
-phase-same : (files after : Files) (exchange : Exchange) (begun : Option Begun) → phase_of (before_files files exchange).standing begun ≡ phase_of (before_files after exchange).standing begun
-phase-same files after exchange None = refl
-phase-same files after exchange (Some b) = refl
+phase-same : (full : Bool) (files after : Files) (exchange : Exchange) (begun : Option Begun) → phase_of full (before_files files exchange).standing begun ≡ phase_of full (before_files after exchange).standing begun
+phase-same full files after exchange None = refl
+phase-same full files after exchange (Some b) = refl
 
 kept-same : (own : ServerSetup) (files after : Files) (exchange : Exchange) → session_of_exchange own files exchange ≡ session_of_exchange own after exchange
 kept-same own files after exchange =
-    ap (λ (p : Phase). let s = session_of_exchange own files exchange in let t : SessionValue = record { own = s.own; setup = s.setup; limit = s.limit; kept = s.kept; phase = p } in t) (phase-same files after exchange exchange.begun)
+    ap (λ (p : Phase). let s = session_of_exchange own files exchange in let t : SessionValue = record { own = s.own; setup = s.setup; limit = s.limit; kept = s.kept; phase = p } in t) (phase-same own.full files after exchange exchange.begun)
 
 all-kept : (own : ServerSetup) (files after : Files) (exchanges : List Exchange) → map (session_of_exchange own files) exchanges ≡ map (session_of_exchange own after) exchanges
 all-kept own files after [] = refl

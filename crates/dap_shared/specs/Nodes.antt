@@ -4,11 +4,11 @@
 use Rattle.std.specs.Prelude.{◌≡◌, ℕ, Bool, true, not, ◌&&◌, ◌==◌, nat_lt, if◌then◌else◌, List, [], ◌∷◌, ◌++◌, length, map, replicate, get_or, set, Option, Some, None, option_map}
 use Rattle.std.specs.List.{list_any, remove}
 use Rattle.std.specs.Option.{option_or}
+use Rattle.dap_accessed.specs.declared.asked.Asked.{Asked}
 use Rattle.dap_accessed.specs.declared.setup.ServerSetup.{ServerSetup}
 use Rattle.dap_msg.specs.BothEnds.{min_buffer}
 use Rattle.dap_msg.specs.declared.message.Message.{Message}
 use Rattle.dap_msg.specs.declared.items.Item.{Item}
-use Rattle.rec_file.specs.declared.shapes.Shape.{Shape}
 use Rattle.rec_file.specs.declared.picks.Rights.{Rights}
 use Rattle.rec_file.specs.Files.{file_with_record}
 use Rattle.dap_accessed.specs.declared.phase.OpenFile.{OpenFile}
@@ -154,7 +154,7 @@ with_record_at at number body files = with_file at (file_with_record (file_at at
 pub data Event : Type 0 where
   Serves : (link : ℕ) → Item → Event
   Begins : (link : ℕ) → (most : Rights) → Event
-  Gives : (name : List ℕ) → Shape → Event
+  Gives : (name : List ℕ) → Asked → Event
   GivesRecord : (at number : ℕ) → (body : List ℕ) → Event
   Drops : (at : ℕ) → Event
 
@@ -173,7 +173,7 @@ after_event own node (Serves link item) =
     let c = end_at link node in
     after_more (exchange_at link node).most link (asked_on own link node item) c (more_beside (setup_on own link node) (open_beside link node.exchanges) c item) node.exchanges
 after_event own node (Begins link most) = record node { exchanges = set node.exchanges link (new_exchange most) }
-after_event own node (Gives name shape) = record node { files = with_new_file name shape node.files }
+after_event own node (Gives name asked) = record node { files = with_new_file name asked node.files }
 after_event own node (GivesRecord at number body) = record node { files = with_record_at at number body node.files }
 after_event own node (Drops at) = if is_open at node then node else without_file at node
 

@@ -2,7 +2,7 @@
 
 ghost use Rattle.std.specs.Prelude.{◌≡◌, ◌⊎◌, ◌≤◌, ◌<◌, ℕ, List, [], length, IfOk, IfErr, IsTrue, OnOk, OnErr, Some, None, true, false, set, replicate, IfSome};
 ghost use Rattle.dap_msg.specs.BothEnds.{min_buffer};
-ghost use Rattle.rec_file.specs.Shapes.{is_shape};
+ghost use Rattle.dap_accessed.specs.Asked.{IsAsked};
 ghost use Rattle.dap_accessed.specs.Adding.{MayStore, with_new_file};
 ghost use Rattle.dap_accessed.specs.Setup.{IsServerSetup, plain_setup};
 ghost use Rattle.dap_accessed.specs.Standing.{Files, file_at, index_by};
@@ -14,9 +14,9 @@ ghost use Rattle.dap_shared.specs.Shared.{AtFile, IsSilentAt, NotAdded, NotRemov
 use crate::fault::RemoveFault;
 use crate::server::Serving;
 use crate::shared::SharedFiles;
-use dap_accessed::{AddFault, FileTable, NoMemory, Served, ServerSetup};
+use dap_accessed::{AddFault, Asked, FileTable, NoMemory, Served, ServerSetup};
 use dap_msg::Item;
-use rec_file::{Rights, Shape};
+use rec_file::Rights;
 use std::alloc::Global;
 use std::marker::Model;
 
@@ -200,20 +200,20 @@ impl NotedFiles {
     }
 
     /// Does what [`SharedFiles::add`] does.
-    pub fn add(&mut self, name: &[u8], shape: Shape) -> Result<(), AddFault>
-        requires { IsTrue (is_shape shape) }
+    pub fn add(&mut self, name: &[u8], asked: Asked) -> Result<(), AddFault>
+        requires { IsAsked asked }
         ensures may { OnOk result
             (index_by self.old.shared.setup.names name.now self.old.shared.files ≡ None) }
         ensures given { OnOk result
-            (SharedGiven (Gives name.now shape) self.old.shared self.new.shared) }
+            (SharedGiven (Gives name.now asked) self.old.shared self.new.shared) }
         ensures files { OnOk result (self.new.shared.files
-            ≡ with_new_file name.now shape self.old.shared.files) }
+            ≡ with_new_file name.now asked self.old.shared.files) }
         ensures rest { self.new ≡ record self.old { shared = self.new.shared } }
         ensures refused { IfErr result
             (NotAdded self.old.shared.setup.names self.old.shared.files name.now) }
         ensures unchanged { OnErr result (self.new ≡ self.old) }
     {
-        self.shared.add(name, shape)
+        self.shared.add(name, asked)
     }
 
     /// Does what [`SharedFiles::add_record`] does.

@@ -6,7 +6,7 @@ ghost use Rattle.dap_msg.specs.BothEnds.{min_buffer};
 ghost use Rattle.dap_msg.specs.Decoding.{IsSpelled};
 ghost use Rattle.dap_msg.specs.declared.items.Item.TheVariants.{Whole};
 ghost use Rattle.dap_msg.specs.declared.message.Message.{Message as TheMessage};
-ghost use Rattle.rec_file.specs.Shapes.{is_shape};
+ghost use Rattle.dap_accessed.specs.Asked.{IsAsked};
 ghost use Rattle.dap_accessed.specs.Standing.{Files, file_at, index_by};
 ghost use Rattle.dap_accessed.specs.Adding.{MayStore, with_new_file};
 ghost use Rattle.dap_accessed.specs.Sessions.{IsOpenIn, session_with};
@@ -18,9 +18,9 @@ ghost use Rattle.dap_shared.specs.Inner.Held.{IsSilentAmong, MovesOn, session_at
 
 use crate::fault::RemoveFault;
 use crate::locks::{FILE_LOCKED, is_barred, is_barred_by_file, is_held};
-use dap_accessed::{AddFault, FileTable, NoMemory, OpenFile, Served, ServerSetup, Session};
+use dap_accessed::{AddFault, Asked, FileTable, NoMemory, OpenFile, Served, ServerSetup, Session};
 use dap_msg::Item;
-use rec_file::{Rights, Shape};
+use rec_file::Rights;
 use std::alloc::Global;
 use std::marker::Model;
 
@@ -280,23 +280,24 @@ impl SharedFiles {
         self.sessions[link] = Session::with_setup(self.alloc, setup);
     }
 
-    /// Adds a file without records after the others. Its shape is one that [`rec_file::Shape::check`] gives.
+    /// Adds a file without records after the others. Its shape is one that [`rec_file::Shape::check`] gives, and its look
+    /// is one of that shape.
     ///
     /// Refusals in order: FileExists, NoMemory; each leaves all unchanged.
-    pub fn add(&mut self, name: &[u8], shape: Shape) -> Result<(), AddFault>
-        requires { IsTrue (is_shape shape) }
+    pub fn add(&mut self, name: &[u8], asked: Asked) -> Result<(), AddFault>
+        requires { IsAsked asked }
         ensures may { OnOk result
             (index_by self.old.setup.names name.now self.old.files ≡ None) }
-        ensures given { OnOk result (SharedGiven (Gives name.now shape) self.old self.new) }
+        ensures given { OnOk result (SharedGiven (Gives name.now asked) self.old self.new) }
         ensures files { OnOk result
-            (self.new.files ≡ with_new_file name.now shape self.old.files) }
+            (self.new.files ≡ with_new_file name.now asked self.old.files) }
         ensures refused { IfErr result (NotAdded self.old.setup.names self.old.files name.now) }
         ensures unchanged { OnErr result (self.new ≡ self.old) }
     {
         if self.files.find_by(self.setup.names, name).is_some() {
             return Err(AddFault::FileExists);
         }
-        self.files.make(self.alloc, name, shape)?;
+        self.files.make(self.alloc, name, asked)?;
         Ok(())
     }
 

@@ -1,3 +1,5 @@
+pub mod KeptLemmas
 pub mod ReadBack
 pub mod RequestLemmas
 pub mod TableLemmas
+pub mod ForCallers

@@ -2,3 +2,4 @@
 pub mod Reports
 pub mod Requests
 pub mod Tables
+pub mod Kept

@@ -4,3 +4,4 @@ pub mod Requests
 pub mod Reports
 pub mod Tables
 pub mod Filed
+pub mod Kept

@@ -1,14 +1,14 @@
 //! The lines of files and records, read back.
 
 ghost use Rattle.std.specs.Prelude.{◌≡◌};
-ghost use Rattle.dap_text.specs.Filed.{file_line_of, org_of, record_line_of, rfm_of};
+ghost use Rattle.dap_text.specs.Filed.{file_line_of, kept_last, kept_in_word, org_of, record_line_of, rfm_of};
 
-use crate::words::{Text, next_text};
+use crate::words::{Text, next_text, read_hex};
 use dap_msg::codes::{ORG_RELATIVE, ORG_SEQUENTIAL, RFM_FIXED, RFM_VARIABLE};
 use texts::{Words, is};
 
-/// What the line of a file says: its name, which is still digits, and ORG, RFM, MRS in bytes and MRN (DAP 5.6.0,
-/// Attributes message).
+/// What the line of a file says: its name, which is still digits; ORG, RFM, MRS in bytes and MRN; and the digits of an
+/// Attributes message of what is kept with the file, none where nothing is (DAP 5.6.0, Attributes message).
 #[derive(Drop)]
 pub struct FileLine<'a> {
     pub name: Text<'a>,
@@ -16,6 +16,7 @@ pub struct FileLine<'a> {
     pub rfm: u8,
     pub mrs: u16,
     pub mrn: u32,
+    pub kept: Text<'a>,
 }
 
 /// What the line of a record says: its number, and its bytes, which are still digits.
@@ -51,8 +52,29 @@ fn read_rfm(word: &[u8]) -> Option<u8>
     }
 }
 
-/// Returns the file that a line says, `file NAME seq|rel fixed|variable MRS MRN`, or None where it says none. Whether
-/// there are files of such a shape isn't checked.
+/// Returns what a word says is kept, `kept=HEX`.
+fn read_kept_word(word: &[u8]) -> Option<Text<'_>>
+    ensures { result ≡ kept_in_word word.now }
+{
+    read_hex(word.strip_prefix(b"kept=")?)
+}
+
+/// Returns what the last word says is kept, or nothing where no word is left.
+fn read_kept(mut words: Words<'_>) -> Option<Text<'_>>
+    ensures { result ≡ kept_last words.entry }
+{
+    match words.next() {
+        None => Some(Text::none()),
+        Some(word) => {
+            let kept = read_kept_word(word)?;
+            words.end()?;
+            Some(kept)
+        }
+    }
+}
+
+/// Returns the file that a line says, `file NAME seq|rel fixed|variable MRS MRN [kept=HEX]`, or None where it says none.
+/// [`FileLine::asked`] says whether there may be such a file.
 #[tactic(auto, using(crate::proofs::RequestLemmas::ends_none))]
 pub fn read_file_line(line: &[u8]) -> Option<FileLine<'_>>
     ensures { result ≡ file_line_of line.now }
@@ -66,13 +88,14 @@ pub fn read_file_line(line: &[u8]) -> Option<FileLine<'_>>
     let rfm = read_rfm(words.next()?)?;
     let mrs = words.short()?;
     let mrn = words.number(u32::MAX)?;
-    words.end()?;
+    let kept = read_kept(words)?;
     Some(FileLine {
         name,
         org,
         rfm,
         mrs,
         mrn,
+        kept,
     })
 }
 

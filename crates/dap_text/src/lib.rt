@@ -2,7 +2,9 @@
 #![tactic(auto)]
 
 mod answers;
+mod fault;
 mod filed;
+mod kept;
 mod laws;
 mod reports;
 mod requests;
@@ -10,6 +12,7 @@ mod tables;
 mod words;
 
 pub use answers::{ask_word, got_word};
+pub use fault::FileFault;
 pub use filed::{FileLine, RecordLine, read_file_line, read_record_line};
 pub use laws::{files_are_read_back, records_are_read_back};
 pub use reports::push_report;

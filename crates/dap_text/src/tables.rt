@@ -2,11 +2,15 @@
 
 ghost use Rattle.std.specs.Prelude.{◌≡◌, ◌<◌, ◌++◌, IfOk, OnErr, OnOk, codes, length};
 ghost use Rattle.texts.specs.Adding.{Adds, StillBegins};
-ghost use Rattle.dap_text.specs.Tables.{AddsLine, file_line, files_text, format_text, lines_from, org_text, record_line};
+ghost use Rattle.texts.specs.Text.{line_feed};
+ghost use Rattle.dap_msg.specs.Canon.{Fits};
+ghost use Rattle.dap_text.specs.Kept.{look_bytes, kept_message};
+ghost use Rattle.dap_text.specs.Tables.{AddsLine, file_line, files_text, format_text, kept_text, lines_from, org_text, record_line};
 ghost use Rattle.dap_text.specs.Inner.Tables.{shape_text, sizes_text};
 
-use dap_accessed::FileTable;
-use rec_file::{Format, Org, RecordFile, Shape, first_record};
+use crate::kept::look_bytes;
+use dap_accessed::{FileTable, given_limit};
+use rec_file::{Format, Look, Org, RecordFile, Shape, first_record};
 use std::alloc::AllocError;
 use texts::{push_image, push_number, push_str};
 
@@ -50,26 +54,57 @@ pub(crate) fn push_sizes(text: &mut Vec<u8>, mrs: u16, mrn: u32) -> Result<(), A
     push_number(text, " ", mrn)
 }
 
-/// Appends the organization, the record format and the sizes of a file, each after a space.
+/// Appends the organization, the record format and the sizes of a file, each after a space, with MRS as it was given.
 #[tactic(auto, unfolding(texts::specs::Adding::StillBegins))]
-fn push_shape(text: &mut Vec<u8>, shape: Shape) -> Result<(), AllocError>
-    ensures added { OnOk result (Adds text.old text.new (shape_text shape)) }
+fn push_shape(text: &mut Vec<u8>, shape: Shape, look: Look) -> Result<(), AllocError>
+    ensures added { OnOk result (Adds text.old text.new (shape_text shape look)) }
     ensures kept { StillBegins text.old text.new }
 {
     push_next_word(text, org_word(shape.org))?;
     push_next_word(text, format_word(shape.format))?;
-    push_sizes(text, shape.mrs, shape.mrn)
+    push_sizes(text, given_limit(shape, look), shape.mrn)
+}
+
+/// Appends what is kept with a file, where anything is.
+#[tactic(auto, unfolding(texts::specs::Adding::StillBegins))]
+fn push_kept(text: &mut Vec<u8>, look: Look) -> Result<(), AllocError>
+    requires { Fits (kept_message look) }
+    ensures added { OnOk result (Adds text.old text.new (kept_text (look_bytes look))) }
+    ensures kept { StillBegins text.old text.new }
+{
+    let bytes = look_bytes(*text.allocator(), look)?;
+    if bytes.is_empty() {
+        return Ok(());
+    }
+    push_image(text, " kept=", &bytes)
+}
+
+/// Appends what is kept with a file, where anything is, and the end of the line.
+#[tactic(auto, unfolding(texts::specs::Adding::StillBegins))]
+fn push_line_end(text: &mut Vec<u8>, look: Look) -> Result<(), AllocError>
+    requires { Fits (kept_message look) }
+    ensures added { OnOk result (Adds text.old text.new (kept_text (look_bytes look) ++ line_feed)) }
+    ensures kept { StillBegins text.old text.new }
+{
+    push_kept(text, look)?;
+    push_str(text, "\n")
 }
 
 /// Appends the line of a file.
 #[tactic(auto, unfolding(texts::specs::Adding::StillBegins))]
-fn push_file_line(text: &mut Vec<u8>, name: &[u8], shape: Shape) -> Result<(), AllocError>
-    ensures added { OnOk result (Adds text.old text.new (file_line name.now shape)) }
+fn push_file_line(
+    text: &mut Vec<u8>,
+    name: &[u8],
+    shape: Shape,
+    look: Look,
+) -> Result<(), AllocError>
+    requires { Fits (kept_message look) }
+    ensures added { OnOk result (Adds text.old text.new (file_line name.now shape look)) }
     ensures kept { StillBegins text.old text.new }
 {
     push_image(text, "file ", name)?;
-    push_shape(text, shape)?;
-    push_str(text, "\n")
+    push_shape(text, shape, look)?;
+    push_line_end(text, look)
 }
 
 /// Appends the line of a record.
@@ -93,7 +128,7 @@ pub enum FilesCursor {
 }
 
 /// Appends the line of the file at an index of the table, where there is one, and returns the next position.
-#[tactic(auto, unfolding(texts::specs::Adding::StillBegins))]
+#[tactic(auto, using(crate::proofs::KeptLemmas::fits_kept), unfolding(texts::specs::Adding::StillBegins))]
 fn push_file_at(
     text: &mut Vec<u8>,
     files: &FileTable,
@@ -106,7 +141,8 @@ fn push_file_at(
     if at >= files.count() {
         return Ok(None);
     }
-    push_file_line(text, files.name(at), files.file(at).shape())?;
+    let file = files.file(at);
+    push_file_line(text, files.name(at), file.shape(), file.look())?;
     Ok(Some(FilesCursor::Record(at, 0)))
 }
 

@@ -56,7 +56,14 @@ pub fn read_hex(digits: &[u8]) -> Option<Text<'_>>
 }
 
 impl<'a> Text<'a> {
-    ghost use Rattle.std.specs.Prelude.{◌≡◌, IfOk};
+    ghost use Rattle.std.specs.Prelude.{◌≡◌, [], IfOk};
+
+    /// Returns no bytes.
+    pub(crate) fn none() -> Text<'a>
+        ensures { result ≡ [] }
+    {
+        Text { word: b"-" }
+    }
 
     /// Returns a copy of the bytes.
     pub fn to_vec(&self, alloc: Global) -> Result<Vec<u8>, AllocError>

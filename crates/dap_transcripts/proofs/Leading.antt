@@ -10,8 +10,7 @@ use Rattle.nsp_link.specs.declared.fault.LinkFault.{LinkFault}
 use Rattle.nsp_link.specs.Link.{IsSpelling}
 use Rattle.nsp_link.specs.Sending.{ack_packet_of}
 use Rattle.rec_file.specs.declared.picks.Rights.{Rights}
-use Rattle.rec_file.specs.declared.shapes.Shape.{Shape}
-use Rattle.rec_file.specs.Shapes.{checked_shape, format_of_code, is_shape, org_of_code}
+use Rattle.dap_accessed.specs.declared.asked.Asked.{Asked}
 use Rattle.dap_accessed.specs.Setup.{all_rights}
 use Rattle.dap_end.specs.declared.fault.EndFault.{EndFault}
 use Rattle.dap_end.specs.declared.fault.TakeFault.{TakeFault}
@@ -21,7 +20,11 @@ use Rattle.dap_end.specs.Node.{HasPort, NodeValue, OnLink, has_local, is_free_li
 use Rattle.dap_end.specs.Ports.{PortValue}
 use Rattle.dap_end.specs.Turns.{TakesPacket, WentOn}
 use Rattle.dap_end.specs.Writing.{AreSegments}
+use Rattle.dap_text.specs.declared.fault.FileFault.{FileFault}
+use Rattle.dap_text.specs.declared.fault.FileFault.TheVariants as file_fault
+use Rattle.dap_text.specs.declared.filed.FileLine.{FileLine}
 use Rattle.dap_text.specs.declared.filed.RecordLine.{RecordLine}
+use Rattle.dap_text.specs.Kept.{LineAsks}
 use Rattle.dap_network.specs.Calls.{Leads}
 use Rattle.dap_network.specs.Happening.{GotFile, GotRecord, LostFile, LostLink, NodeEvent, NodeStepped, all_written}
 use Rattle.dap_network.specs.Network.{AtNode, Network, Peer, PeersStepped, client_on, peers_sent, peer_sent}
@@ -33,14 +36,14 @@ use Rattle.dap_live.specs.declared.node_orders.NodeOrder.{NodeOrder}
 use Rattle.dap_live.specs.declared.node_orders.NodeOrder.TheVariants as order
 use Rattle.dap_live.specs.declared.orders.Between.{Between}
 use Rattle.dap_live.specs.Both.{DoneOr, LeavesEnd}
-use Rattle.dap_live.specs.Node.{AddsLink, AddsRecordTo, BeginsOn, DropsFile, FileNotGiven, FindsLink, GivesFile, GoesOnWith, NodeDoes, OnMeant, RefusesLink, RenewsOn, ResendsOn, Says, TakesOn, TakesPacketBy, about, before_line, is_alone, is_work_left_at, meant, node_without_file, one_link, NoLink}
+use Rattle.dap_live.specs.Node.{AddsAsked, AddsLink, AddsRecordTo, BeginsOn, DropsFile, FileNotGiven, FindsLink, GivesFile, GoesOnWith, NodeDoes, OnMeant, RefusesLink, RenewsOn, ResendsOn, Says, TakesOn, TakesPacketBy, about, before_line, is_alone, is_work_left_at, meant, node_without_file, one_link, NoLink}
 use Rattle.dap_live.specs.NodeOrders.{node_order_of}
 use Rattle.dap_live.specs.Orders.{most_beside, setup_beside}
 use Rattle.dap_transcripts.specs.Programs.{BeginsSome, BringsIn, WroteFor}
 use Rattle.dap_live.specs.Texts.{LineAnswer, add_refusal, done_said, link_refusal, locked_text, packet_text, packets_text, status_line}
 use Rattle.nsp_link.specs.declared.fault.LinkFault.TheVariants as fault
 use Rattle.dap_msg.specs.Codes.{reasons, stscode}
-use Rattle.dap_transcripts.proofs.Lines.{done_speaks, found_within, good_of, no_link_quiet, none_wrote, taken_speaks}
+use Rattle.dap_transcripts.proofs.Lines.{done_speaks, found_within, good_asked, no_link_quiet, none_wrote, taken_speaks}
 use Rattle.dap_transcripts.proofs.Speaking.{Speaks, speaks_add, speaks_both, speaks_files, speaks_hex, speaks_link, speaks_locked, speaks_none, speaks_packets, speaks_remove, speaks_status}
 
 -- ---- What is written for one link.
@@ -272,12 +275,14 @@ module _ (net : Network) (old new : Node) (same : net.node ≡ old.node) where
       one_led net old new same text (subst (λ (t : List ℕ). Speaks t []) (sym none) speaks_none)
       (one_step net new.node event (subst (λ (v : NodeValue). NodeStepped v event new.node) (sym same) s) q)
 
-  file_by : (shape : Option Shape) (code why : ℕ) (name text : List ℕ) (became : Became) → IfSome shape (λ s. IsTrue (is_shape s))
-      → MatchOption shape (Says (status_line code why, Done) (node_without_file (before_line old)) new text became)
-      (λ s. DoneOr (λ became. became) (GivesFile name s (before_line old) new) (FileNotGiven name (before_line old)) add_refusal (node_without_file (before_line old)) new text became) → Ends text
-  file_by None code why name text became good h = still text (subst (λ (t : List ℕ). Speaks t []) (sym h.1) (speaks_status code why)) (ap (λ (n : Node). n.node) h.0)
-  file_by (Some s) code why name text became good (inl h) = one_event (GotFile name s) text h.1 (good, h.0.first, h.0.given.given, h.0.given.ports) refl
-  file_by (Some s) code why name text became good (inr h) = still text (subst (λ (t : List ℕ). Speaks t []) (sym h.3) (speaks_add h.0)) (ap (λ (n : Node). n.node) h.2)
+  file_by : (file : FileLine) (asks : Result Asked FileFault) (text : List ℕ) (became : Became) → LineAsks file asks
+      → AddsAsked (before_line old) file.name asks new text became → Ends text
+  file_by file (Ok asked) text became asks (inl h) = one_event (GotFile file.name asked) text h.1 (good_asked file asked asks, h.0.first, h.0.given.given, h.0.given.ports) refl
+  file_by file (Ok asked) text became asks (inr h) = still text (subst (λ (t : List ℕ). Speaks t []) (sym h.3) (speaks_add h.0)) (ap (λ (n : Node). n.node) h.2)
+  file_by file (Err file_fault.BadKept) text became asks h = still text (subst (λ (t : List ℕ). Speaks t []) (sym h.1) speaks_none) (ap (λ (n : Node). n.node) h.0)
+  file_by file (Err file_fault.BadAttributes) text became asks h =
+      still text (subst (λ (t : List ℕ). Speaks t []) (sym h.1) (speaks_status stscode.access_refused reasons.bad_attributes)) (ap (λ (n : Node). n.node) h.0)
+  file_by file (Err file_fault.NoMemory) text became asks h = absurd asks
 
   records : (r : RecordLine) (text : List ℕ) (became : Became) → AddsRecordTo (before_line old) r new text became → Ends text
   records r text became (inl h) =
@@ -300,6 +305,6 @@ module _ (net : Network) (old new : Node) (same : net.node ≡ old.node) where
   order_leads (order.New b) line text became is brings h = new_by (position (has_local b.local) old.node.ports) b text became h
   order_leads order.Files line text became is brings h = still text (speaks_files old.node.noted.shared.files text became h.1) (ap (λ (n : Node). n.node) h.0)
   order_leads (order.File file) line text became is brings h =
-      file_by (checked_shape file.org file.rfm file.mrs file.mrn) stscode.access_refused reasons.bad_attributes file.name text became (good_of (org_of_code file.org) (format_of_code file.rfm) file.mrs file.mrn) h
+      file_by file h.0 text became h.1 h.2
   order_leads (order.Record r) line text became is brings h = records r text became h
   order_leads (order.Drop name) line text became is brings h = drops name text became h

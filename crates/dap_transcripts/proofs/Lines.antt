@@ -3,16 +3,12 @@ use Rattle.std.proofs.Common.{◌≡◌, ℕ, ◌+◌, ◌<◌, ◌≤◌, arith
 use Rattle.std.specs.Prelude.{◌⊎◌, ◌-◌, ◌&&◌, nat_le, IfSome, MatchBool, MatchOption, MatchResult, Option, Some, None, Result, Ok, Err, if◌then◌else◌}
 use Rattle.std.specs.List.{position}
 use Rattle.std.proofs.lemmas.List.{map-append}
-use Rattle.rec_file.specs.declared.shapes.Format.{Format}
-use Rattle.rec_file.specs.declared.shapes.Org.{Org}
-use Rattle.rec_file.specs.declared.shapes.Org.TheVariants.{Seq, Rel}
-use Rattle.rec_file.specs.declared.shapes.Shape.{Shape}
+use Rattle.dap_accessed.specs.declared.asked.Asked.{Asked}
+use Rattle.dap_accessed.specs.Asked.{IsAsked}
 use Rattle.rec_file.specs.declared.picks.Rights.{Rights}
-use Rattle.rec_file.specs.Shapes.{checked_shape, format_of_code, has_length, is_shape, kept_mrn, org_of_code, shape_of}
-use Rattle.rec_file.specs.Limits.{max_record, max_record_number}
 use Rattle.dap_accessed.specs.declared.setup.Names.{Names}
 use Rattle.dap_accessed.specs.Standing.{Files, index_by}
-use Rattle.dap_accessed.proofs.ForCallers.{index-within, both}
+use Rattle.dap_accessed.proofs.ForCallers.{a_file_made_fully, index-within}
 use Rattle.nsp_link.specs.declared.link.Got.{Got}
 use Rattle.nsp_link.specs.declared.link.LinkSetup.{LinkSetup}
 use Rattle.nsp_link.specs.declared.fault.LinkFault.{LinkFault}
@@ -25,7 +21,11 @@ use Rattle.dap_end.specs.Node.{HasPort, NodeValue, has_local, is_free_link, serv
 use Rattle.nsp_link.specs.Link.{IsSpelling}
 use Rattle.nsp_link.specs.Sending.{ack_packet_of}
 use Rattle.dap_accessed.specs.Setup.{all_rights}
+use Rattle.dap_text.specs.declared.fault.FileFault.{FileFault}
+use Rattle.dap_text.specs.declared.fault.FileFault.TheVariants as file_fault
+use Rattle.dap_text.specs.declared.filed.FileLine.{FileLine}
 use Rattle.dap_text.specs.declared.filed.RecordLine.{RecordLine}
+use Rattle.dap_text.specs.Kept.{LineAsks, line_attributes}
 use Rattle.dap_live.specs.Orders.{most_beside, setup_beside}
 use Rattle.dap_end.specs.Ports.{EndValue, PortValue}
 use Rattle.dap_end.specs.Writing.{AreSegments}
@@ -38,7 +38,7 @@ use Rattle.dap_live.specs.declared.node_orders.NodeOrder.{NodeOrder}
 use Rattle.dap_live.specs.declared.node_orders.NodeOrder.TheVariants as order
 use Rattle.dap_live.specs.declared.orders.Between.{Between}
 use Rattle.dap_live.specs.Both.{DoneOr, LeavesEnd}
-use Rattle.dap_live.specs.Node.{AddsLink, AddsRecordTo, BeginsOn, NoLink, DropsFile, FileNotGiven, GivesFile, GoesOnWith, NodeDoes, OnMeant, RefusesLink, RenewsOn, ResendsOn, Says, TakesOn, TakesPacketBy, about, is_work_left_at, meant, node_without_file, one_link}
+use Rattle.dap_live.specs.Node.{AddsAsked, AddsLink, AddsRecordTo, BeginsOn, NoLink, DropsFile, FileNotGiven, GivesFile, GoesOnWith, NodeDoes, OnMeant, RefusesLink, RenewsOn, ResendsOn, Says, TakesOn, TakesPacketBy, about, is_work_left_at, meant, node_without_file, one_link}
 use Rattle.dap_live.specs.Sending.{AllAgain}
 use Rattle.dap_msg.specs.Codes.{reasons, stscode}
 use Rattle.dap_text.specs.Answers.{got_text}
@@ -219,25 +219,19 @@ new_by o (Some link) b old new text became h = renews_line o link (Some b) old n
 
 -- ---- Files.
 
--- the shape that the check gives is one that a file may have
-allowed : (org : Org) (format : Format) (mrs mrn : ℕ) (b : Bool) → (has_length format mrs && nat_le mrs max_record && nat_le mrn max_record_number) ≡ b
-    → IfSome (if b then Some (record { org = org; format = format; mrs = mrs; mrn = kept_mrn org mrn }) else None) (λ s. IsTrue (is_shape s))
-allowed org format mrs mrn false e = tt
-allowed Seq format mrs mrn true e = ap (λ b. b && true && true) (both (has_length format mrs && nat_le mrs max_record) (nat_le mrn max_record_number) e).0
-allowed Rel format mrs mrn true e = ap (λ b. b && true) e
+-- what is asked for may be made
+pub good_asked : (file : FileLine) (asked : Asked) → LineAsks file (Ok asked) → IsAsked asked
+good_asked file asked h = a_file_made_fully (line_attributes file asked.look) (Some asked) (sym h.1)
 
-pub good_of : (org : Option Org) (format : Option Format) (mrs mrn : ℕ) → IfSome (shape_of org format mrs mrn) (λ s. IsTrue (is_shape s))
-good_of None format mrs mrn = tt
-good_of (Some org) None mrs mrn = tt
-good_of (Some org) (Some format) mrs mrn = allowed org format mrs mrn _ refl
-
-file_by : (o : NodeOrder) (shape : Option Shape) (code why : ℕ) (name : List ℕ) (old new : Node) (text : List ℕ) (became : Became) → IfSome shape (λ s. IsTrue (is_shape s))
-    → MatchOption shape (Says (status_line code why, Done) (node_without_file old) new text became)
-    (λ s. DoneOr (λ became. became) (GivesFile name s old new) (FileNotGiven name old) add_refusal (node_without_file old) new text became) → LineDid o old.node new.node text
-file_by o None code why name old new text became good h = nothing o old.node new.node text (subst (λ (t : List ℕ). Speaks t []) (sym h.1) (speaks_status code why)) (ap (λ (n : Node). n.node) h.0)
-file_by o (Some s) code why name old new text became good (inl h) =
-    one_event o old.node new.node text (GotFile name s) (subst (λ (t : List ℕ). Speaks t []) (sym h.1) speaks_none) (good, h.0.first, h.0.given.given, h.0.given.ports) refl refl
-file_by o (Some s) code why name old new text became good (inr h) = nothing o old.node new.node text (subst (λ (t : List ℕ). Speaks t []) (sym h.3) (speaks_add h.0)) (ap (λ (n : Node). n.node) h.2)
+file_by : (o : NodeOrder) (file : FileLine) (asks : Result Asked FileFault) (old new : Node) (text : List ℕ) (became : Became) → LineAsks file asks
+    → AddsAsked old file.name asks new text became → LineDid o old.node new.node text
+file_by o file (Ok asked) old new text became asks (inl h) =
+    one_event o old.node new.node text (GotFile file.name asked) (subst (λ (t : List ℕ). Speaks t []) (sym h.1) speaks_none) (good_asked file asked asks, h.0.first, h.0.given.given, h.0.given.ports) refl refl
+file_by o file (Ok asked) old new text became asks (inr h) = nothing o old.node new.node text (subst (λ (t : List ℕ). Speaks t []) (sym h.3) (speaks_add h.0)) (ap (λ (n : Node). n.node) h.2)
+file_by o file (Err file_fault.BadKept) old new text became asks h = nothing o old.node new.node text (subst (λ (t : List ℕ). Speaks t []) (sym h.1) speaks_none) (ap (λ (n : Node). n.node) h.0)
+file_by o file (Err file_fault.BadAttributes) old new text became asks h =
+    nothing o old.node new.node text (subst (λ (t : List ℕ). Speaks t []) (sym h.1) (speaks_status stscode.access_refused reasons.bad_attributes)) (ap (λ (n : Node). n.node) h.0)
+file_by o file (Err file_fault.NoMemory) old new text became asks h = absurd asks
 
 pub found_within : (names : Names) (name : List ℕ) (files : Files) (at : ℕ) → index_by names name files ≡ Some at → at < length files
 found_within names name files at e = subst (λ (x : Option ℕ). IfSome x (λ n. n < length files)) e (index-within names name files)
@@ -266,6 +260,6 @@ order_did (order.Renew anew) old new text became h = meant_by (order.Renew anew)
 order_did (order.New b) old new text became h = new_by (order.New b) (position (has_local b.local) old.node.ports) b old new text became h
 order_did order.Files old new text became h = nothing order.Files old.node new.node text (speaks_files old.node.noted.shared.files text became h.1) (ap (λ (n : Node). n.node) h.0)
 order_did (order.File file) old new text became h =
-    file_by (order.File file) (checked_shape file.org file.rfm file.mrs file.mrn) stscode.access_refused reasons.bad_attributes file.name old new text became (good_of (org_of_code file.org) (format_of_code file.rfm) file.mrs file.mrn) h
+    file_by (order.File file) file h.0 old new text became h.1 h.2
 order_did (order.Record r) old new text became h = record_line_did (order.Record r) r old new text became h
 order_did (order.Drop name) old new text became h = drops_line (order.Drop name) name old new text became h

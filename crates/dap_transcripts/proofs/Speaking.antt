@@ -8,7 +8,10 @@ use Rattle.rec_file.specs.declared.shapes.Format.{Format}
 use Rattle.rec_file.specs.declared.shapes.Format.TheVariants as form
 use Rattle.rec_file.specs.declared.shapes.Org.{Org}
 use Rattle.rec_file.specs.declared.shapes.Org.TheVariants as org
+use Rattle.rec_file.specs.declared.look.Look.{Look}
 use Rattle.rec_file.specs.declared.shapes.Shape.{Shape}
+use Rattle.dap_accessed.specs.Replies.{given_limit}
+use Rattle.dap_text.specs.Kept.{look_bytes}
 use Rattle.nsp_seg.specs.Flags.{flag_kind_of}
 use Rattle.nsp_seg.specs.declared.packet.FlagKind.{FlagKind}
 use Rattle.nsp_seg.specs.declared.packet.FlagKind.TheVariants as kind
@@ -36,7 +39,7 @@ use Rattle.dap_shared.specs.declared.fault.RemoveFault.{RemoveFault}
 use Rattle.dap_end.specs.declared.fault.EndFault.{EndFault}
 use Rattle.dap_meanings.specs.Faults.{fault_line, flag_text}
 use Rattle.dap_text.specs.Answers.{got_text}
-use Rattle.dap_text.specs.Tables.{file_line, file_lines, files_lines, format_text, org_text, record_line}
+use Rattle.dap_text.specs.Tables.{file_line, file_lines, files_lines, format_text, org_text, record_line, kept_text}
 use Rattle.texts.specs.Text.{image_text, line_feed, word_text}
 use Rattle.linewise.specs.declared.talking.Became.{Became}
 use Rattle.linewise.specs.Talks.{ComesIn, ending_of, refusal_of}
@@ -259,10 +262,14 @@ no_feed_format form.Variable = no_feed_by (codes "variable") refl
 pub one_space : HasNoFeed (codes " ")
 one_space = no_feed_by (codes " ") refl
 
-quiet_file : (name : List ℕ) (shape : Shape) → Speaks (file_line name shape) []
-quiet_file name shape =
-    speaks_pieces (codes "file " ∷ image_text name ∷ codes " " ∷ org_text shape.org ∷ codes " " ∷ format_text shape.format ∷ codes " " ∷ decimal shape.mrs ∷ codes " " ∷ decimal shape.mrn ∷ [])
-    (no_feed_by (codes "file ") refl, (no_feed_image name, (one_space, (no_feed_org shape.org, (one_space, (no_feed_format shape.format, (one_space, (no_feed_decimal shape.mrs, (one_space, (no_feed_decimal shape.mrn, tt)))))))))) refl
+no_feed_kept : (bytes : List ℕ) → HasNoFeed (kept_text bytes)
+no_feed_kept [] = no_feed_by [] refl
+no_feed_kept (b ∷ bytes) = no_feed_both (codes " kept=") (image_text (b ∷ bytes)) (no_feed_by (codes " kept=") refl) (no_feed_image (b ∷ bytes))
+
+quiet_file : (name : List ℕ) (shape : Shape) (look : Look) → Speaks (file_line name shape look) []
+quiet_file name shape look =
+    speaks_pieces (codes "file " ∷ image_text name ∷ codes " " ∷ org_text shape.org ∷ codes " " ∷ format_text shape.format ∷ codes " " ∷ decimal (given_limit shape look) ∷ codes " " ∷ decimal shape.mrn ∷ kept_text (look_bytes look) ∷ [])
+    (no_feed_by (codes "file ") refl, (no_feed_image name, (one_space, (no_feed_org shape.org, (one_space, (no_feed_format shape.format, (one_space, (no_feed_decimal (given_limit shape look), (one_space, (no_feed_decimal shape.mrn, (no_feed_kept (look_bytes look), tt))))))))))) refl
 
 quiet_record : (r : ℕ × List ℕ) → Speaks (record_line r) []
 quiet_record (number, body) = speaks_pieces (codes "  " ∷ decimal number ∷ codes " " ∷ image_text body ∷ []) (no_feed_by (codes "  ") refl, (no_feed_decimal number, (one_space, (no_feed_image body, tt)))) refl
@@ -273,7 +280,7 @@ quiet_records (r ∷ rs) = (quiet_record r, quiet_records rs)
 
 quiet_files : (files : Files) → AreQuiet (files_lines files)
 quiet_files [] = tt
-quiet_files ((name, file) ∷ files) = quiet_both (file_lines (name, file)) (files_lines files) (quiet_file name file.shape, quiet_records (entries file.records)) (quiet_files files)
+quiet_files ((name, file) ∷ files) = quiet_both (file_lines (name, file)) (files_lines files) (quiet_file name file.shape file.look, quiet_records (entries file.records)) (quiet_files files)
 
 comes_quiet : (pieces : List (List ℕ)) (text : List ℕ) (became : Became) → AreQuiet pieces → ComesIn pieces text became → Speaks text []
 comes_quiet pieces text was.Done q h = subst (λ (l : List ℕ). Speaks l []) (sym h) (quiet_all pieces q)

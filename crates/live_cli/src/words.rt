@@ -42,7 +42,7 @@ more is counted where a line ran out of memory. Empty lines, and those that begi
                               only serve has: get, put, upd and del with commas between them, - for none, or the number of a FAC
   close LOCAL                 serve --links 2 and more: the link ends; there new, resend and ack name their link by LOCAL
   files                       serve: the files, as the two lines below
-  file NAME seq|rel fixed|variable MRS MRN
+  file NAME seq|rel fixed|variable MRS MRN [kept=HEX]
                               serve, before a packet arrived: one file more, without records
     N BODY                    a record of it, after two spaces; names and bodies are hex digits, or - for none
   drop NAME                   serve: the file is removed, unless a link has it open

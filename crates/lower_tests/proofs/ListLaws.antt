@@ -8,6 +8,7 @@ use Rattle.std.proofs.lemmas.List.{length-map}
 use Rattle.std.proofs.lemmas.Simd.{map-map}
 use Rattle.std.proofs.lemmas.Option.{slice_get_within, slice_get-map, slice_get_read}
 use Rattle.rec_file.specs.declared.shapes.Shape.{Shape}
+use Rattle.rec_file.specs.Looks.{plain_look}
 use Rattle.rec_file.specs.Files.{FileVal, lowest_from, highest_of, file_with_record, file_without_record}
 use Rattle.lower_tests.specs.Inner.Lists.{list_file}
 use Rattle.rec_file.specs.Inner.Sorted.{IsInOrder, IsIndexOf, IsGapFor}
@@ -82,7 +83,7 @@ module _ (s : Shape) (es : List (ℕ × List ℕ)) (f : FileVal) (e : list_file 
 
   pub placed : (n i : ℕ) (body : List ℕ) → IsGapFor (numbers es) n i → list_file s (insert es i (n, body)) ≡ file_with_record f n body
   placed n i body g =
-      ap (λ m. record { shape = s; records = m })
+      ap (λ m. record { shape = s; look = plain_look; records = m })
       (same_records (from_sorted {R = nat_cmp} (insert es i (n, body))) (put (from_sorted {R = nat_cmp} es) n body) (λ q.
       get_pairs (insert es i (n, body)) q (rising-insert es n i body r g) ∙ at-insert es n i body g q
       ∙ sym (get_stored (from_sorted {R = nat_cmp} es) n body q ∙ ap (cond (eqb q n) (Some body)) (get_pairs es q r))))
@@ -90,7 +91,7 @@ module _ (s : Shape) (es : List (ℕ × List ℕ)) (f : FileVal) (e : list_file 
 
   pub set_is : (i : ℕ) (p : ℕ × List ℕ) (body : List ℕ) → slice_get es i ≡ Some p → list_file s (set es i (p.0, body)) ≡ file_with_record f p.0 body
   set_is i p body is =
-      ap (λ m. record { shape = s; records = m })
+      ap (λ m. record { shape = s; look = plain_look; records = m })
       (same_records (from_sorted {R = nat_cmp} (set es i (p.0, body))) (put (from_sorted {R = nat_cmp} es) p.0 body) (λ q.
       get_pairs (set es i (p.0, body)) q (rising-set es i p body r is) ∙ at-set es i p body r is q
       ∙ sym (get_stored (from_sorted {R = nat_cmp} es) p.0 body q ∙ ap (cond (eqb q p.0) (Some body)) (get_pairs es q r))))
@@ -98,7 +99,7 @@ module _ (s : Shape) (es : List (ℕ × List ℕ)) (f : FileVal) (e : list_file 
 
   pub less : (i : ℕ) (p : ℕ × List ℕ) → slice_get es i ≡ Some p → list_file s (remove es i) ≡ file_without_record f p.0
   less i p is =
-      ap (λ m. record { shape = s; records = m })
+      ap (λ m. record { shape = s; look = plain_look; records = m })
       (same_records (from_sorted {R = nat_cmp} (remove es i)) (take_out (from_sorted {R = nat_cmp} es) p.0) (λ q.
       get_pairs (remove es i) q (rising-remove es i r) ∙ at-remove es i p r is q
       ∙ sym (get_removed (from_sorted {R = nat_cmp} es) p.0 q ∙ ap (cond (eqb q p.0) None) (get_pairs es q r))))

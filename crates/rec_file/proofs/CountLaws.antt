@@ -8,6 +8,7 @@ use Rattle.std.proofs.lemmas.Bool.{cases_lt}
 use Rattle.std.proofs.lemmas.Bool.Decides.{nat_tests}
 use Rattle.std.proofs.lemmas.List.{length-map}
 use Rattle.std.proofs.lemmas.Map.Made.{length-from_keys}
+use Rattle.rec_file.specs.declared.look.Look.{Look}
 use Rattle.rec_file.specs.declared.shapes.Shape.{Shape}
 use Rattle.rec_file.specs.Files.{FileVal, IsFile}
 use Rattle.rec_file.specs.Inner.Pages.{Cells, paged_file, cell_of, page_cell}
@@ -91,7 +92,7 @@ some_number (x ∷ ps) p all some = elim (same_or_not p x.0) [
 ]
 
 -- a file keeps as many pages as its occupied numbers have
-pub kept_pages : (s : Shape) (ps : List (ℕ × Cells)) (f : FileVal) → paged_file s ps ≡ f → IsRising ps → AllPages ps → IsFile f → length ps ≡ occupied_pages f.records
+pub kept_pages : {l : Look} (s : Shape) (ps : List (ℕ × Cells)) (f : FileVal) → paged_file s l ps ≡ f → IsRising ps → AllPages ps → IsFile f → length ps ≡ occupied_pages f.records
 kept_pages s ps f e r all file =
     sym (length-map ps (λ (p : ℕ × Cells). p.0))
     ∙ length-from_keys nat_eq_equiv (numbers ps) (map page_of (keys f.records)) (distinct ps r) (λ q. same_test _ _ (to q) (from q))

@@ -6,10 +6,12 @@ use Rattle.std.specs.Ordering.{nat_cmp, eq_by_cmp}
 use Rattle.std.specs.Cmp.{nat_cmp_total}
 use Rattle.std.specs.FinMap.{get, insert, remove, get-insert, get-remove, get-empty, empty, same_map, nat_cmp-IsAntisymmetric}
 use Rattle.std.proofs.lemmas.Bool.Decides.{nat_tests}
+use Rattle.rec_file.specs.declared.look.Look.{Look}
 use Rattle.rec_file.specs.declared.shapes.Shape.{Shape}
 use Rattle.rec_file.specs.Limits.{max_record_number, max_record}
 use Rattle.rec_file.specs.Shapes.{is_shape, has_length, is_seq, max_number, allows_length}
-use Rattle.rec_file.specs.Files.{FileVal, IsFile, Records, highest_of, file_with_record, file_without_record}
+use Rattle.rec_file.specs.Looks.{plain_look, exceeds_front, LookFits, IsLook}
+use Rattle.rec_file.specs.Files.{FileVal, IsFile, Records, highest_of, empty_file, file_with_record, file_without_record}
 use Rattle.rec_file.proofs.Rising.{same_or_not}
 use Rattle.rec_file.proofs.RecordsLaws.{is_highest, highest_is}
 
@@ -46,6 +48,7 @@ pub IsFile-placed :
     → IsTrue (allows_length file.shape (length body)) → IsFile (file_with_record file n body)
 IsFile-placed file n body h least most next allowed = record {
   shape = h.shape;
+  look = h.look;
   above = λ q some. elim (same_or_not q n) [ inl same ↦ omega arith | inr other ↦ h.above q (subst IsSome (get_stored_other file.records n body q other) some) ];
   within = λ q some. elim (same_or_not q n) [ inl same ↦ subst (λ k. k ≤ max_number file.shape) (sym same) most | inr other ↦ h.within q (subst IsSome (get_stored_other file.records n body q other) some) ];
   dense = λ seq q ge le.
@@ -73,6 +76,7 @@ pub IsFile-replaced :
     → IsTrue (allows_length file.shape (length body)) → IsFile (file_with_record file n body)
 IsFile-replaced file n body h there allowed = record {
   shape = h.shape;
+  look = h.look;
   above = λ q some. elim (same_or_not q n) [ inl same ↦ h.above q (subst (λ k. IsSome (get file.records k)) (sym same) there) | inr other ↦ h.above q (subst IsSome (get_stored_other file.records n body q other) some) ];
   within = λ q some. elim (same_or_not q n) [ inl same ↦ h.within q (subst (λ k. IsSome (get file.records k)) (sym same) there) | inr other ↦ h.within q (subst IsSome (get_stored_other file.records n body q other) some) ];
   dense = λ seq q ge le.
@@ -106,6 +110,7 @@ get_removed_same m n q same = let e = get_removed m n q in grind (arith, nat_tes
 pub IsFile-removed : (file : FileVal) (n : ℕ) → IsFile file → is_seq file.shape.org ≡ false → IsFile (file_without_record file n)
 IsFile-removed file n h rel = record {
   shape = h.shape;
+  look = h.look;
   above = λ q some. elim (same_or_not q n) [ inl same ↦ cc (get_removed_same file.records n q same) | inr other ↦ h.above q (subst IsSome (get_removed_other file.records n q other) some) ];
   within = λ q some. elim (same_or_not q n) [ inl same ↦ cc (get_removed_same file.records n q same) | inr other ↦ h.within q (subst IsSome (get_removed_other file.records n q other) some) ];
   dense = λ seq q ge le. cc;
@@ -132,15 +137,37 @@ limit_le s h =
     let fits : nat_le s.mrn max_record_number ≡ true = third (has_length s.format s.mrs) (nat_le s.mrs max_record) (nat_le s.mrn max_record_number) (not (is_seq s.org) || nat_eq s.mrn 0) h in
     grind (arith, nat_tests)
 
--- an empty file of a shape
-pub IsFile-empty : (s : Shape) → IsTrue (is_shape s) → IsFile (record { shape = s; records = empty })
-IsFile-empty s h = record {
+has_room-none : (mrs : ℕ) → IsTrue (exceeds_front mrs 0)
+has_room-none mrs = grind (arith, nat_tests)
+
+-- the look of which nothing is kept is one of each shape
+pub plain-look : (s : Shape) → IsLook s plain_look
+unfolding IsLook
+plain-look s = record { datatype = tt; rat = tt; bls = tt; bks = tt; bsz = tt; format = tt; front = λ e. cc; limit = has_room-none s.mrs }
+
+-- what is kept of a look of a shape, and back
+pub are_kept : (s : Shape) (l : Look) → IsLook s l → LookFits s l
+unfolding IsLook
+are_kept s l h = h
+
+pub is_look : (s : Shape) (l : Look) → LookFits s l → IsLook s l
+unfolding IsLook
+is_look s l h = h
+
+-- an empty file of a shape and a look
+pub IsFile-new : (s : Shape) (l : Look) → IsTrue (is_shape s) → IsLook s l → IsFile (empty_file s l)
+IsFile-new s l h look = record {
   shape = h;
+  look = look;
   above = λ n some. cc (get-empty {X = List ℕ} nat_cmp n);
   within = λ n some. cc (get-empty {X = List ℕ} nat_cmp n);
   dense = λ seq n least most. absurd (let none = highest_is (empty {X = List ℕ} {R = nat_cmp}) 0 (record { occupied = λ h. absurd (omega arith); none_above = λ j lt. get-empty {X = List ℕ} nat_cmp j }) (get-empty {X = List ℕ} nat_cmp 0) in omega arith);
   lengths = λ n. subst (λ o. IfSome o (λ b. IsTrue (allows_length s (length b)))) (sym (get-empty {X = List ℕ} nat_cmp n)) tt;
 }
+
+-- an empty file of a shape
+pub IsFile-empty : (s : Shape) → IsTrue (is_shape s) → IsFile (empty_file s plain_look)
+IsFile-empty s h = IsFile-new s plain_look h (plain-look s)
 
 -- an occupied number of a file is no greater than the greatest
 pub number_fits : (f : FileVal) (n : ℕ) → IsFile f → IsSome (get f.records n) → n ≤ max_record_number

@@ -1,7 +1,11 @@
 -- What the crates above may cite of this one's proofs. No other file here is for them.
 
 -- a file without records is a file
-pub use Rattle.rec_file.proofs.FileLaws.{IsFile-empty}
+pub use Rattle.rec_file.proofs.FileLaws.{IsFile-empty, IsFile-new}
+-- the look of which nothing is kept is one of each shape
+pub use Rattle.rec_file.proofs.FileLaws.{plain-look}
+-- what is kept of a look of a shape, and back
+pub use Rattle.rec_file.proofs.FileLaws.{are_kept, is_look}
 -- one with a record more
 pub use Rattle.rec_file.proofs.FileLaws.{IsFile-placed}
 -- one with a record less

@@ -1,6 +1,7 @@
 pub mod Rising
 pub mod RecordsLaws
 pub mod FileLaws
+pub mod Looking
 pub mod NumberedLaws
 pub mod SequentialLaws
 pub mod Gaps

@@ -9,6 +9,7 @@ use Rattle.std.specs.BTreeMap.{is_at, insert_entry}
 use Rattle.std.specs.FinMap.{get, insert as put, remove as take_out, from_entries, get-from_entries, is_sorted}
 use Rattle.std.proofs.lemmas.Bool.{cases_lt, eqb-true}
 use Rattle.std.proofs.lemmas.Bool.Decides.{nat_tests}
+use Rattle.rec_file.specs.declared.look.Look.{Look}
 use Rattle.rec_file.specs.declared.shapes.Shape.{Shape}
 use Rattle.rec_file.specs.Limits.{max_record_number}
 use Rattle.rec_file.specs.Files.{FileVal, IsFile, lowest_from, highest_of, file_with_record, file_without_record}
@@ -118,12 +119,12 @@ some_cell (None ∷ cs) h =
     (suc rest.0, rest.1)
 
 -- pages that hold a file: they are in order, and each is one
-pub record HoldsFile (s : Shape) (ps : List (ℕ × Cells)) (f : FileVal) : Type 0 where
-  pub same : paged_file s ps ≡ f
+pub record HoldsFile (s : Shape) (l : Look) (ps : List (ℕ × Cells)) (f : FileVal) : Type 0 where
+  pub same : paged_file s l ps ≡ f
   pub sorted : is_sorted nat_cmp ps ≡ true
   pub all : AllPages ps
 
-pub held : (s : Shape) (ps : List (ℕ × Cells)) (f : FileVal) → paged_file s ps ≡ f → is_sorted nat_cmp ps ≡ true → AllPages ps → HoldsFile s ps f
+pub held : {l : Look} (s : Shape) (ps : List (ℕ × Cells)) (f : FileVal) → paged_file s l ps ≡ f → is_sorted nat_cmp ps ≡ true → AllPages ps → HoldsFile s l ps f
 held s ps f same sorted all = record { same = same; sorted = sorted; all = all }
 
 -- above the greatest number nothing stands
@@ -138,7 +139,7 @@ pub none_kept : {X : Type 0} (ps : List X) → (0 < length ps → ⊥) → ps �
 none_kept [] h = refl
 none_kept (p ∷ ps) h = absurd (h (omega arith))
 
-module _ (s : Shape) (ps : List (ℕ × Cells)) (f : FileVal) (h : HoldsFile s ps f) where
+module _ {l : Look} (s : Shape) (ps : List (ℕ × Cells)) (f : FileVal) (h : HoldsFile s l ps f) where
   r : IsRising ps
   r = rising_pages ps h.sorted
 
@@ -302,7 +303,7 @@ module _ (s : Shape) (ps : List (ℕ × Cells)) (f : FileVal) (h : HoldsFile s p
 
   -- a record in a page that is there
   pub put_in_page : (n : ℕ) (cells : Cells) (body : List ℕ) → 1 ≤ n → at ps (page_of n) ≡ Some cells
-      → HoldsFile s (set_value (is_at (nat_cmp (page_of n))) ps (set cells (cell_of n) (Some body))) (file_with_record f n body)
+      → HoldsFile s l (set_value (is_at (nat_cmp (page_of n))) ps (set cells (cell_of n) (Some body))) (file_with_record f n body)
   put_in_page n cells body least is =
       let page = page_is ps (page_of n) cells h.all is in
       let size = page.size in
@@ -312,7 +313,7 @@ module _ (s : Shape) (ps : List (ℕ × Cells)) (f : FileVal) (h : HoldsFile s p
       let every = all-written IsPage t ps cells' h.all (put_is_page cells (cell_of n) body size (omega arith)) in
       record {
         same =
-            ap (λ m. record { shape = s; records = m })
+            ap (λ m. record { shape = s; look = l; records = m })
             (same_records (from_entries {R = nat_cmp} (paged (set_value t ps cells'))) (put (from_entries {R = nat_cmp} (paged ps)) n body) (λ q.
             changed ps (set_value t ps cells') n (Some body) (Some cells') r (sized ps h.all) rise (sized _ every) least
             (λ j. at-written ps (page_of n) cells' (ap is_some is) j)
@@ -327,14 +328,14 @@ module _ (s : Shape) (ps : List (ℕ × Cells)) (f : FileVal) (h : HoldsFile s p
 
   -- a record in a page that is there or a new one
   put_cells : (n : ℕ) (cells : Cells) (body : List ℕ) → 1 ≤ n → length cells ≡ 64 → ((k : ℕ) → page_cell (at ps (page_of n)) k ≡ cell cells k)
-      → HoldsFile s (insert_entry nat_cmp ps (page_of n) (set cells (cell_of n) (Some body))) (file_with_record f n body)
+      → HoldsFile s l (insert_entry nat_cmp ps (page_of n) (set cells (cell_of n) (Some body))) (file_with_record f n body)
   put_cells n cells body least size is =
       let cells' = set cells (cell_of n) (Some body) in
       let rise = rising-inserted ps (page_of n) cells' r in
       let every = all-inserted IsPage ps (page_of n) cells' h.all (put_is_page cells (cell_of n) body size (omega arith)) in
       record {
         same =
-            ap (λ m. record { shape = s; records = m })
+            ap (λ m. record { shape = s; look = l; records = m })
             (same_records (from_entries {R = nat_cmp} (paged (insert_entry nat_cmp ps (page_of n) cells'))) (put (from_entries {R = nat_cmp} (paged ps)) n body) (λ q.
             changed ps (insert_entry nat_cmp ps (page_of n) cells') n (Some body) (Some cells') r (sized ps h.all) rise (sized _ every) least
             (λ j. at-inserted ps (page_of n) cells' j)
@@ -347,10 +348,10 @@ module _ (s : Shape) (ps : List (ℕ × Cells)) (f : FileVal) (h : HoldsFile s p
         all = every;
       }
 
-  pub put_page : (n : ℕ) (body : List ℕ) → 1 ≤ n → HoldsFile s (put_entry ps (page_of n) (cell_of n) body) (file_with_record f n body)
+  pub put_page : (n : ℕ) (body : List ℕ) → 1 ≤ n → HoldsFile s l (put_entry ps (page_of n) (cell_of n) body) (file_with_record f n body)
   put_page n body least = by (lookup (is_at (nat_cmp (page_of n))) ps) (sym (lookup_is_at ps (page_of n)))
     where
-      by : (o : Option Cells) → at ps (page_of n) ≡ o → HoldsFile s (insert_entry nat_cmp ps (page_of n) (set (unwrap_or o empty_cells) (cell_of n) (Some body))) (file_with_record f n body)
+      by : (o : Option Cells) → at ps (page_of n) ≡ o → HoldsFile s l (insert_entry nat_cmp ps (page_of n) (set (unwrap_or o empty_cells) (cell_of n) (Some body))) (file_with_record f n body)
       by None is = put_cells n empty_cells body least length-empty (λ k. ap (λ c. page_cell c k) is ∙ sym (cell-replicate 64 k))
       by (Some cells) is = put_cells n cells body least (page_is ps (page_of n) cells h.all is).size (λ k. ap (λ c. page_cell c k) is)
 
@@ -362,24 +363,24 @@ module _ (s : Shape) (ps : List (ℕ × Cells)) (f : FileVal) (h : HoldsFile s p
   -- a record that may be refused
   module _ {E : Type 0} (result : Result Bool E) (now : List (ℕ × Cells)) (n : ℕ) (body : List ℕ) (least : 1 ≤ n)
       (ok : IfOk result (λ empty. MatchBool empty (now ≡ put_entry ps (page_of n) (cell_of n) body) (now ≡ ps))) (err : OnErr result (now ≡ ps)) where
-    pub put_same : IfOk result (λ empty. MatchBool empty (paged_file s now ≡ file_with_record f n body) (paged_file s now ≡ f))
+    pub put_same : IfOk result (λ empty. MatchBool empty (paged_file s l now ≡ file_with_record f n body) (paged_file s l now ≡ f))
     put_same = by result ok
       where
         by : (r : Result Bool E) → IfOk r (λ empty. MatchBool empty (now ≡ put_entry ps (page_of n) (cell_of n) body) (now ≡ ps))
-            → IfOk r (λ empty. MatchBool empty (paged_file s now ≡ file_with_record f n body) (paged_file s now ≡ f))
-        by (Ok true) is = ap (paged_file s) is ∙ (put_page n body least).same
-        by (Ok false) is = ap (paged_file s) is ∙ h.same
+            → IfOk r (λ empty. MatchBool empty (paged_file s l now ≡ file_with_record f n body) (paged_file s l now ≡ f))
+        by (Ok true) is = ap (paged_file s l) is ∙ (put_page n body least).same
+        by (Ok false) is = ap (paged_file s l) is ∙ h.same
         by (Err e) is = tt
 
-    pub put_back : OnErr result (paged_file s now ≡ f)
+    pub put_back : OnErr result (paged_file s l now ≡ f)
     put_back = by result err
       where
-        by : (r : Result Bool E) → OnErr r (now ≡ ps) → OnErr r (paged_file s now ≡ f)
+        by : (r : Result Bool E) → OnErr r (now ≡ ps) → OnErr r (paged_file s l now ≡ f)
         by (Ok a) is = tt
-        by (Err e) is = ap (paged_file s) is ∙ h.same
+        by (Err e) is = ap (paged_file s l) is ∙ h.same
 
     abbrev Stands : List (ℕ × Cells) → Type 0
-    Stands pages = IsFile (paged_file s pages) × (is_sorted nat_cmp pages ≡ true) × AllPages pages
+    Stands pages = IsFile (paged_file s l pages) × (is_sorted nat_cmp pages ≡ true) × AllPages pages
 
     pub put_stands : IsFile f → IsFile (file_with_record f n body) → Stands now
     put_stands before after = by result ok err
@@ -391,7 +392,7 @@ module _ (s : Shape) (ps : List (ℕ × Cells)) (f : FileVal) (h : HoldsFile s p
 
   -- a record less in a page that stays
   pub clear_in_page : (n : ℕ) (cells : Cells) → 1 ≤ n → at ps (page_of n) ≡ Some cells → (((k : ℕ) → cell (set cells (cell_of n) None) k ≡ None) → ⊥)
-      → HoldsFile s (set_value (is_at (nat_cmp (page_of n))) ps (set cells (cell_of n) None)) (file_without_record f n)
+      → HoldsFile s l (set_value (is_at (nat_cmp (page_of n))) ps (set cells (cell_of n) None)) (file_without_record f n)
   clear_in_page n cells least is some =
       let page = page_is ps (page_of n) cells h.all is in
       let size = page.size in
@@ -401,7 +402,7 @@ module _ (s : Shape) (ps : List (ℕ × Cells)) (f : FileVal) (h : HoldsFile s p
       let every = all-written IsPage t ps cells' h.all (record { size = length-set cells (cell_of n) None ∙ size; occupied = some_cell cells' some }) in
       record {
         same =
-            ap (λ m. record { shape = s; records = m })
+            ap (λ m. record { shape = s; look = l; records = m })
             (same_records (from_entries {R = nat_cmp} (paged (set_value t ps cells'))) (take_out (from_entries {R = nat_cmp} (paged ps)) n) (λ q.
             changed ps (set_value t ps cells') n None (Some cells') r (sized ps h.all) rise (sized _ every) least
             (λ j. at-written ps (page_of n) cells' (ap is_some is) j)
@@ -416,7 +417,7 @@ module _ (s : Shape) (ps : List (ℕ × Cells)) (f : FileVal) (h : HoldsFile s p
 
   -- the last record of a page: the page goes
   pub drop_page : (n : ℕ) (cells : Cells) → 1 ≤ n → at ps (page_of n) ≡ Some cells → ((k : ℕ) → cell (set cells (cell_of n) None) k ≡ None)
-      → HoldsFile s (remove_entry (is_at (nat_cmp (page_of n))) ps) (file_without_record f n)
+      → HoldsFile s l (remove_entry (is_at (nat_cmp (page_of n))) ps) (file_without_record f n)
   drop_page n cells least is none =
       let size = (page_is ps (page_of n) cells h.all is).size in
       let t = is_at (nat_cmp (page_of n)) in
@@ -424,7 +425,7 @@ module _ (s : Shape) (ps : List (ℕ × Cells)) (f : FileVal) (h : HoldsFile s p
       let every = all-removed IsPage t ps h.all in
       record {
         same =
-            ap (λ m. record { shape = s; records = m })
+            ap (λ m. record { shape = s; look = l; records = m })
             (same_records (from_entries {R = nat_cmp} (paged (remove_entry t ps))) (take_out (from_entries {R = nat_cmp} (paged ps)) n) (λ q.
             changed ps (remove_entry t ps) n None None r (sized ps h.all) rise (sized _ every) least
             (λ j. at-removed ps (page_of n) r j)

@@ -2,6 +2,7 @@
 use Rattle.std.proofs.Common.{◌≡◌, ℕ, zero, suc, ◌+◌, ◌-◌, ◌<◌, ◌≤◌, true, List, [], ◌∷◌, ◌++◌, length, set, map, Some, None, IsSome, Vec, Global, slice_get, get_or, option_map, refl, sym, ap, subst, ◌∙◌, arith}
 use Rattle.std.specs.FinMap.{get, empty, get-empty}
 use Rattle.std.specs.Ordering.{nat_cmp}
+use Rattle.rec_file.specs.declared.look.Look.{Look}
 use Rattle.rec_file.specs.declared.shapes.Shape.{Shape}
 use Rattle.rec_file.specs.Limits.{max_record_number}
 use Rattle.rec_file.specs.Shapes.{is_seq}
@@ -20,7 +21,7 @@ pub numbered-empty : numbered_records [] ≡ empty
 numbered-empty = same_records _ _ empty_at
 
 -- a file holds no more records than there are numbers
-pub count_fits : (s : Shape) (bs : List (List ℕ)) → IsFile (sequential_file s bs) → length bs ≤ max_record_number
+pub count_fits : {l : Look} (s : Shape) (bs : List (List ℕ)) → IsFile (sequential_file s l bs) → length bs ≤ max_record_number
 count_fits s [] h = omega arith
 count_fits s (b ∷ bs) h = let last = h.within (length (b ∷ bs)) (some-numbered (b ∷ bs) _ (omega arith) (omega arith)) in let top = limit_le s h.shape in omega arith
 
@@ -28,7 +29,7 @@ count_fits s (b ∷ bs) h = let last = h.within (length (b ∷ bs)) (some-number
 abbrev pub bodies : List (Vec ℕ Global) → List (List ℕ)
 bodies vs = map (λ v. v.items) vs
 
-module _ (s : Shape) (vs : List (Vec ℕ Global)) (f : FileVal) (e : sequential_file s (bodies vs) ≡ f) where
+module _ {l : Look} (s : Shape) (vs : List (Vec ℕ Global)) (f : FileVal) (e : sequential_file s l (bodies vs) ≡ f) where
   records_are : numbered_records (bodies vs) ≡ f.records
   records_are = ap (λ g. g.records) e
 
@@ -38,7 +39,7 @@ module _ (s : Shape) (vs : List (Vec ℕ Global)) (f : FileVal) (e : sequential_
   pub highest_is_length : (n : ℕ) → n ≡ length vs → n ≡ highest_of f.records
   highest_is_length n is = is ∙ sym size ∙ sym (highest-numbered (bodies vs)) ∙ ap highest_of records_are
 
-  pub fits : (n : ℕ) → n ≡ length vs → IsFile (sequential_file s (bodies vs)) → n ≤ max_record_number
+  pub fits : (n : ℕ) → n ≡ length vs → IsFile (sequential_file s l (bodies vs)) → n ≤ max_record_number
   fits n is h = let most = count_fits s (bodies vs) h in let same = size in omega arith
 
   pub first_is : (n k : ℕ) → n ≤ k → 1 ≤ k → (2 ≤ k → k ≡ n) → k ≤ length vs → Some k ≡ lowest_from f.records n
@@ -66,18 +67,18 @@ module _ (s : Shape) (vs : List (Vec ℕ Global)) (f : FileVal) (e : sequential_
   pub within_occupied : (n : ℕ) → 1 ≤ n → n ≤ length vs → IsSome (get f.records n)
   within_occupied n least most = subst (λ m. IsSome (get m n)) records_are (some-numbered (bodies vs) n least (let same = size in omega arith))
 
-  pub pushed : (v : Vec ℕ Global) (n : ℕ) (body : List ℕ) → v.items ≡ body → n ≡ highest_of f.records + 1 → sequential_file s (bodies (vs ++ v ∷ [])) ≡ file_with_record f n body
+  pub pushed : (v : Vec ℕ Global) (n : ℕ) (body : List ℕ) → v.items ≡ body → n ≡ highest_of f.records + 1 → sequential_file s l (bodies (vs ++ v ∷ [])) ≡ file_with_record f n body
   pushed v n body is next =
       let top = highest_is_length (length vs) refl in
       let more : bodies (vs ++ v ∷ []) ≡ bodies vs ++ body ∷ [] = map-append _ vs (v ∷ []) ∙ ap (λ b. bodies vs ++ b ∷ []) is in
-      ap (sequential_file s) more
-      ∙ ap (λ m. record { shape = s; records = m }) (sym (numbered-push (bodies vs) body n (let same = size in omega arith)))
+      ap (sequential_file s l) more
+      ∙ ap (λ m. record { shape = s; look = l; records = m }) (sym (numbered-push (bodies vs) body n (let same = size in omega arith)))
       ∙ ap (λ g. file_with_record g n body) e
 
-  pub replaced : (v : Vec ℕ Global) (i n : ℕ) (body : List ℕ) → v.items ≡ body → i + 1 ≡ n → i < length vs → sequential_file s (bodies (set vs i v)) ≡ file_with_record f n body
+  pub replaced : (v : Vec ℕ Global) (i n : ℕ) (body : List ℕ) → v.items ≡ body → i + 1 ≡ n → i < length vs → sequential_file s l (bodies (set vs i v)) ≡ file_with_record f n body
   replaced v i n body is at lt =
-      ap (sequential_file s) (map-set (λ v. v.items) vs i v ∙ ap (set (bodies vs) i) is)
-      ∙ ap (λ m. record { shape = s; records = m }) (sym (numbered-set (bodies vs) i body n at (let same = size in omega arith)))
+      ap (sequential_file s l) (map-set (λ v. v.items) vs i v ∙ ap (set (bodies vs) i) is)
+      ∙ ap (λ m. record { shape = s; look = l; records = m }) (sym (numbered-set (bodies vs) i body n at (let same = size in omega arith)))
       ∙ ap (λ g. file_with_record g n body) e
 
   pub stays_sequential : is_seq s.org ≡ true → is_seq f.shape.org ≡ true

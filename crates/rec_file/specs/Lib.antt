@@ -1,6 +1,7 @@
 pub mod Limits
 pub mod Shapes
 pub mod Keys
+pub mod Looks
 pub mod Files
 pub mod Acts
 pub mod AnyFiles

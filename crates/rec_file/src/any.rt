@@ -1,10 +1,12 @@
 //! Files of either organization.
 ghost use Rattle.std.specs.Prelude.{◌≡◌, IsTrue};
-ghost use Rattle.std.specs.FinMap as map;
 ghost use Rattle.rec_file.specs.Shapes.{is_shape};
 ghost use Rattle.rec_file.specs.AnyFiles.{any_value};
+ghost use Rattle.rec_file.specs.Files.{empty_file};
+ghost use Rattle.rec_file.specs.Looks.{plain_look, IsLook};
 
 use crate::files::{OneWalk, RecordFile};
+use crate::look::Look;
 use crate::relative::RelFile;
 use crate::sequential::SeqFile;
 use crate::shapes::{Org, Shape};
@@ -20,15 +22,35 @@ pub enum AnyFile {
 }
 
 impl AnyFile {
-    /// Returns an empty file of the shape's organization, the shape being one that [`Shape::check`] gives. It takes no
-    /// memory.
+    /// Returns an empty file of the shape's organization, the shape being one that [`Shape::check`] gives. Nothing is
+    /// kept of Attributes. It takes no memory.
+    #[tactic(auto, using(crate::proofs::Looking::a_plain_look))]
     pub fn new(alloc: Global, shape: Shape) -> AnyFile
         requires { IsTrue (is_shape shape) }
-        ensures { any_value result ≡ record { shape = shape; records = map.empty } }
+        ensures { any_value result ≡ empty_file shape plain_look }
+    {
+        AnyFile::with_look(alloc, shape, Look::plain())
+    }
+
+    /// Returns an empty file as [`AnyFile::new`] does, with what is kept of the Attributes that make it.
+    pub fn with_look(alloc: Global, shape: Shape, look: Look) -> AnyFile
+        requires valid { IsTrue (is_shape shape) }
+        requires look { IsLook shape look }
+        ensures { any_value result ≡ empty_file shape look }
     {
         match shape.org {
-            Org::Seq => AnyFile::Seq(SeqFile::new(alloc, shape)),
-            Org::Rel => AnyFile::Rel(RelFile::new(alloc, shape)),
+            Org::Seq => AnyFile::Seq(SeqFile::with_look(alloc, shape, look)),
+            Org::Rel => AnyFile::Rel(RelFile::with_look(alloc, shape, look)),
+        }
+    }
+
+    /// Returns what is kept of the Attributes that made the file.
+    pub fn look(&self) -> Look
+        ensures { result ≡ (any_value self.now).look }
+    {
+        match self {
+            AnyFile::Seq(file) => file.look(),
+            AnyFile::Rel(file) => file.look(),
         }
     }
 }

@@ -1,4 +1,4 @@
-//! What a record file is: a shape and a finite map from numbers to records.
+//! What a record file is: a shape, what is kept besides, and a finite map from numbers to records.
 ghost use Rattle.std.specs.Prelude.{◌≡◌, ◌≤◌, ◌+◌, [], ◌∷◌, length, Some, None, false, is_none, is_some, IsTrue, IsSome, IfSome, IfNone, IfOk, OnOk, OnErr, MatchBool};
 ghost use Rattle.std.specs.Option.{option_copied};
 ghost use Rattle.std.specs.FinMap as map;
@@ -17,7 +17,7 @@ use std::alloc::AllocError;
 ///
 /// [`Stream`]: crate::Stream
 pub trait OneWalk {
-    /// The shape and the records.
+    /// The shape, what is kept besides, and the records.
     ghost value: { Self → FileVal };
 
     /// Returns the lowest occupied number from this one on and its record, or None where there is none.
@@ -69,8 +69,8 @@ pub trait OneWalk {
             (value self.new ≡ value self.old) };
 }
 
-/// A file of numbered records, however it is kept, in the manner of RMS: its value is a shape
-/// and a finite map from numbers to records, and each call reads or changes that map.
+/// A file of numbered records, however it is kept, in the manner of RMS: its value is a shape, what is kept of the
+/// Attributes that made it, and a finite map from numbers to records. Each call reads or changes that map alone.
 ///
 /// `place` and `replace` alone take memory; where it is refused, nothing has changed.
 pub trait RecordFile: OneWalk {

@@ -8,11 +8,13 @@ ghost use Rattle.std.specs.FinMap as map;
 ghost use Rattle.slab.specs.Slab.{get, slab_len};
 ghost use Rattle.rec_file.specs.Shapes.{is_shape, is_seq};
 ghost use Rattle.rec_file.specs.Pages.{occupied_pages};
-ghost use Rattle.rec_file.specs.Files.{lowest_from};
+ghost use Rattle.rec_file.specs.Files.{empty_file, lowest_from};
+ghost use Rattle.rec_file.specs.Looks.{plain_look, IsLook};
 ghost use Rattle.rec_file.specs.Limits.{max_record};
 ghost use Rattle.rec_file.specs.Inner.Pages.{pages_at, page_cell, put_entry, HaveOwnSlots, IsPage, IsSpot};
 
 use crate::files::{OneWalk, RecordFile};
+use crate::look::Look;
 use crate::pages::{Page, cell_of, first_in, last_in, page_of};
 use crate::shapes::Shape;
 use crate::slots::{Put, Slots};
@@ -26,6 +28,7 @@ use std::marker::Model;
 #[derive(Drop)]
 pub struct RelFile {
     shape: Shape,
+    look: Look,
     alloc: Global,
     slots: Slots,
     pages: Slab<Page>,
@@ -46,9 +49,9 @@ impl Model for RelFile {
 
     ghost coded = { file_code };
 
-    ghost view = { λ a. paged_file a.shape (pages_at (get a.pages) a.slots) };
+    ghost view = { λ a. paged_file a.shape a.look (pages_at (get a.pages) a.slots) };
 
-    ghost invariant = { λ a. IsFile (paged_file a.shape (pages_at (get a.pages) a.slots))
+    ghost invariant = { λ a. IsFile (paged_file a.shape a.look (pages_at (get a.pages) a.slots))
         × (is_seq a.shape.org ≡ false)
         × (is_sorted nat_cmp (pages_at (get a.pages) a.slots) ≡ true)
         × AllByRecursion IsPage (map (λ p. p.1) (pages_at (get a.pages) a.slots))
@@ -57,18 +60,38 @@ impl Model for RelFile {
 }
 
 impl RelFile {
-    /// Returns an empty file of a relative shape that [`Shape::check`] gives. It takes no memory.
+    /// Returns an empty file of a relative shape that [`Shape::check`] gives. Nothing is kept of Attributes. It takes no
+    /// memory.
+    #[tactic(auto, using(crate::proofs::Looking::a_plain_look))]
     pub fn new(alloc: Global, shape: Shape) -> RelFile
         requires valid { IsTrue (is_shape shape) }
         requires relative { is_seq shape.org ≡ false }
-        ensures { result ≡ record { shape = shape; records = map.empty } }
+        ensures { result ≡ empty_file shape plain_look }
+    {
+        RelFile::with_look(alloc, shape, Look::plain())
+    }
+
+    /// Returns an empty file as [`RelFile::new`] does, with what is kept of the Attributes that make it.
+    pub(crate) fn with_look(alloc: Global, shape: Shape, look: Look) -> RelFile
+        requires valid { IsTrue (is_shape shape) }
+        requires relative { is_seq shape.org ≡ false }
+        requires look { IsLook shape look }
+        ensures { result ≡ empty_file shape look }
     {
         RelFile {
             shape,
+            look,
             alloc,
             slots: Slots::new(alloc),
             pages: Slab::new(alloc),
         }
+    }
+
+    /// Returns what is kept of the Attributes that made the file.
+    pub(crate) fn look(&self) -> Look
+        ensures { result ≡ self.now.look }
+    {
+        self.look
     }
 
     /// Returns how many pages are kept: as many as the occupied numbers n have different values of `(n - 1) / 64`.

@@ -1,9 +1,11 @@
 //! Sequential files: a list of records.
 ghost use Rattle.std.specs.Prelude.{◌≡◌, IsTrue};
-ghost use Rattle.std.specs.FinMap as map;
 ghost use Rattle.rec_file.specs.Shapes.{is_shape, is_seq};
+ghost use Rattle.rec_file.specs.Files.{empty_file};
+ghost use Rattle.rec_file.specs.Looks.{plain_look, IsLook};
 
 use crate::files::{OneWalk, RecordFile};
+use crate::look::Look;
 use crate::shapes::Shape;
 use std::alloc::{AllocError, Global};
 use std::marker::Model;
@@ -13,6 +15,7 @@ use std::marker::Model;
 #[derive(Drop)]
 pub struct SeqFile {
     shape: Shape,
+    look: Look,
     records: Vec<Vec<u8>>,
 }
 
@@ -27,23 +30,43 @@ impl Model for SeqFile {
 
     ghost coded = { file_code };
 
-    ghost view = { λ a. sequential_file a.shape (map (λ v. v.items) a.records.items) };
+    ghost view = { λ a. sequential_file a.shape a.look (map (λ v. v.items) a.records.items) };
 
-    ghost invariant = { λ a. IsFile (sequential_file a.shape (map (λ v. v.items) a.records.items))
+    ghost invariant = { λ a. IsFile (sequential_file a.shape a.look (map (λ v. v.items) a.records.items))
         × (is_seq a.shape.org ≡ true) };
 }
 
 impl SeqFile {
-    /// Returns an empty file of a sequential shape that [`Shape::check`] gives. It takes no memory.
+    /// Returns an empty file of a sequential shape that [`Shape::check`] gives. Nothing is kept of Attributes. It takes no
+    /// memory.
+    #[tactic(auto, using(crate::proofs::Looking::a_plain_look))]
     pub fn new(alloc: Global, shape: Shape) -> SeqFile
         requires valid { IsTrue (is_shape shape) }
         requires sequential { IsTrue (is_seq shape.org) }
-        ensures { result ≡ record { shape = shape; records = map.empty } }
+        ensures { result ≡ empty_file shape plain_look }
+    {
+        SeqFile::with_look(alloc, shape, Look::plain())
+    }
+
+    /// Returns an empty file as [`SeqFile::new`] does, with what is kept of the Attributes that make it.
+    pub(crate) fn with_look(alloc: Global, shape: Shape, look: Look) -> SeqFile
+        requires valid { IsTrue (is_shape shape) }
+        requires sequential { IsTrue (is_seq shape.org) }
+        requires look { IsLook shape look }
+        ensures { result ≡ empty_file shape look }
     {
         SeqFile {
             shape,
+            look,
             records: Vec::new(alloc),
         }
+    }
+
+    /// Returns what is kept of the Attributes that made the file.
+    pub(crate) fn look(&self) -> Look
+        ensures { result ≡ self.now.look }
+    {
+        self.look
     }
 }
 

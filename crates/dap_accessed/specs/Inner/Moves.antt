@@ -1,14 +1,14 @@
 -- What an item does to what an end keeps, and its answers.
-use Rattle.std.specs.Prelude.{ℕ, ◌≡◌, Bool, true, false, not, ◌==◌, nat_lt, List, [], ◌∷◌, length, Option, Result, IfOk}
+use Rattle.std.specs.Prelude.{ℕ, ◌≡◌, Bool, true, false, not, ◌==◌, nat_lt, List, [], ◌∷◌, length, Option, Some, Result, IfOk}
 use Rattle.std.specs.Global.{Vec}
 use Rattle.dap_msg.specs.Codes as codes
 use Rattle.dap_msg.specs.declared.message.Message.{Message}
 use Rattle.dap_msg.specs.declared.message.Message.TheVariants.{Attrib, Access, Control, Contran, Filedata, Other}
 use Rattle.dap_msg.specs.declared.items.Item.{Item}
 use Rattle.dap_msg.specs.declared.items.Item.TheVariants.{Whole, Malformed}
-use Rattle.rec_file.specs.declared.shapes.Shape.{Shape}
 use Rattle.rec_file.specs.Acts.{StreamVal}
 use Rattle.rec_file.specs.declared.refusals.Refusal.{Refusal}
+use Rattle.dap_accessed.specs.declared.asked.Asked.{Asked}
 use Rattle.dap_accessed.specs.declared.fault.NoMemory.{NoMemory}
 use Rattle.dap_accessed.specs.declared.setup.ServerSetup.{ServerSetup}
 use Rattle.dap_accessed.specs.declared.phase.OpenFile.{OpenFile}
@@ -16,9 +16,9 @@ use Rattle.dap_accessed.specs.declared.phase.Phase.{Phase}
 use Rattle.dap_accessed.specs.declared.phase.Phase.TheVariants as phases
 use Rattle.dap_accessed.specs.declared.verbs.Verb.{Verb}
 use Rattle.dap_accessed.specs.declared.verbs.Verb.TheVariants as verbs
-use Rattle.dap_accessed.specs.Standing.{index_by, index_to_erase, ServerState, Scene, Effect, enters, Fresh, Ready, Opened, Connected, Store, Stopped}
-use Rattle.dap_msg.specs.BothEnds.{no_attributes}
-use Rattle.dap_accessed.specs.Past.{asked_shape, next_ordinal}
+use Rattle.dap_accessed.specs.Standing.{plain_shape, index_by, index_to_erase, ServerState, Scene, Effect, enters, Fresh, Ready, Opened, Connected, Store, Stopped}
+use Rattle.dap_accessed.specs.Asked.{plainly}
+use Rattle.dap_accessed.specs.Past.{asked_file, next_ordinal}
 use Rattle.dap_accessed.specs.Accesses.{refuse_access, open_file, create_file, erase_file}
 use Rattle.dap_accessed.specs.Replies.{bare_status, too_large}
 use Rattle.dap_accessed.specs.Records.{verb_of, Putting, Updating, refused_effect, stream_without_current}
@@ -36,19 +36,23 @@ abbrev pub scene_in : Present → Scene
 scene_in p = record { limit = p.limit; files = p.files }
 
 -- outside a Store nothing is dropped or counted
-abbrev pub plain_memory : Option Shape → Memory
-plain_memory shape = record { shape = shape; dropping = false; ordinal = 0 }
+abbrev pub plain_memory : Option Asked → Memory
+plain_memory asked = record { asked = asked; dropping = false; ordinal = 0 }
 
-abbrev pub store_memory : Option Shape → Bool → ℕ → Memory
-store_memory shape dropping ordinal = record { shape = shape; dropping = dropping; ordinal = ordinal }
+abbrev pub store_memory : Option Asked → Bool → ℕ → Memory
+store_memory asked dropping ordinal = record { asked = asked; dropping = dropping; ordinal = ordinal }
 
 -- ---- What counts of the past after one more group.
 
+-- without Attributes
+abbrev pub plainly_asked : Option Asked
+plainly_asked = Some (plainly plain_shape)
+
 -- in Ready an Attributes message is kept, and an Access uses it up
-abbrev pub shape_next : Option Shape → Item → Option Shape
-shape_next shape (Whole (Attrib a)) = asked_shape a
-shape_next shape (Whole (Access _)) = asked_shape no_attributes
-shape_next shape _ = shape
+abbrev pub asked_next : (full : Bool) → Option Asked → Item → Option Asked
+asked_next full asked (Whole (Attrib a)) = asked_file full a
+asked_next full asked (Whole (Access _)) = plainly_asked
+asked_next full asked _ = asked
 
 -- in a Store a Filedata that is answered was refused, and a Continue Transfer with skip takes the Store up again
 abbrev pub drops_next : Bool → Item → List Message → Bool
@@ -61,11 +65,11 @@ abbrev pub ordinal_next : ℕ → Item → ℕ
 ordinal_next ordinal (Whole (Filedata _ _)) = next_ordinal ordinal
 ordinal_next ordinal _ = ordinal
 
-abbrev pub remembers : Memory → ServerState → Item → List Message → Memory
-remembers memory Ready item answers = plain_memory (shape_next memory.shape item)
-remembers memory (Store _ _) item answers =
-    store_memory memory.shape (drops_next memory.dropping item answers) (ordinal_next memory.ordinal item)
-remembers memory _ item answers = plain_memory memory.shape
+abbrev pub remembers : (full : Bool) → Memory → ServerState → Item → List Message → Memory
+remembers full memory Ready item answers = plain_memory (asked_next full memory.asked item)
+remembers full memory (Store _ _) item answers =
+    store_memory memory.asked (drops_next memory.dropping item answers) (ordinal_next memory.ordinal item)
+remembers full memory _ item answers = plain_memory memory.asked
 
 -- ---- Moves.
 
@@ -78,7 +82,7 @@ settles p memory effect =
         setup = p.setup;
         limit = effect.scene.limit;
         files = effect.scene.files;
-        kept = memory.shape;
+        kept = memory.asked;
         phase = phase_at effect.state memory;
       };
       answers = effect.answers;
@@ -91,14 +95,14 @@ begins_group p phase = record { present = record p { phase = phase }; answers = 
 -- an item that begins a group, or is one with this effect
 abbrev pub turns : Turn → Present → Memory → ServerState → Item → Move
 turns (Does effect) p memory state item =
-    settles p (remembers memory state item (told p.setup effect).answers) (told p.setup effect)
+    settles p (remembers p.setup.full memory state item (told p.setup effect).answers) (told p.setup effect)
 turns (BeginsGroup begun) p memory state item = begins_group p (phase_within begun.change begun.opened begun.stream)
 
 -- what an item does outside a group of two, where this counts of the past
 abbrev pub turn_by : (own : ServerSetup) → Scene → Memory → ServerState → Item → Turn
 turn_by own scene memory state (Malformed fault) = Does (enters scene state (bare_status (codes.status_code_for fault.message_type) ∷ []))
 turn_by own scene memory Fresh (Whole message) = Does (effect_fresh own scene message)
-turn_by own scene memory Ready (Whole message) = Does (effect_ready own scene memory.shape message)
+turn_by own scene memory Ready (Whole message) = Does (effect_ready own scene memory.asked message)
 turn_by own scene memory (Opened opened) (Whole message) = Does (effect_opened scene opened message)
 turn_by own scene memory (Connected opened stream) (Whole message) = turn_connected scene opened stream message
 turn_by own scene memory (Store opened stream) (Whole message) =
@@ -160,7 +164,7 @@ Makes step old new result = IfOk result (Moves old step new)
 
 -- an Access, which uses up the attributes that were kept
 abbrev pub accesses : Present → Effect → Move
-accesses p effect = settles p (plain_memory (asked_shape no_attributes)) (told p.setup effect)
+accesses p effect = settles p (plain_memory plainly_asked) (told p.setup effect)
 
 abbrev pub opens_nothing : Present → Message → Move
 opens_nothing p status = accesses p (refuse_access (scene_in p) status)

@@ -1,12 +1,12 @@
 -- What an item asks for in a phase.
-use Rattle.std.specs.Prelude.{ℕ, ◌≡◌, ◌<◌, ◌≤◌, ◌==◌, ◌&&◌, nat_lt, if◌then◌else◌, Bool, true, false, [], ◌∷◌, length, IfSome, IsTrue, Result, Ok, Err}
+use Rattle.std.specs.Prelude.{ℕ, ◌≡◌, ◌<◌, ◌≤◌, ◌==◌, ◌&&◌, nat_lt, if◌then◌else◌, Bool, true, false, [], ◌∷◌, length, Result, Ok, Err}
 use Rattle.dap_msg.specs.BothEnds.{min_buffer}
 use Rattle.dap_msg.specs.Codes as codes
 use Rattle.dap_msg.specs.declared.items.Item.{Item}
 use Rattle.dap_msg.specs.declared.message.Message.{Message}
-use Rattle.dap_msg.specs.declared.message.Message.TheVariants.{Config, Control, Contran, Filedata}
+use Rattle.dap_msg.specs.declared.message.Message.TheVariants.{Config, Attrib, Control, Contran, Filedata}
+use Rattle.dap_msg.specs.Fitting.{FieldsFit}
 use Rattle.rec_file.specs.Acts.{act, delete_record}
-use Rattle.rec_file.specs.Shapes.{is_shape}
 use Rattle.dap_accessed.specs.declared.phase.OpenFile.{OpenFile}
 use Rattle.dap_accessed.specs.declared.phase.Phase.{Phase}
 use Rattle.dap_accessed.specs.declared.phase.Phase.TheVariants as phases
@@ -16,7 +16,7 @@ use Rattle.dap_accessed.specs.Standing.{Files, the_file}
 use Rattle.dap_accessed.specs.Accesses.{files_after_purge}
 use Rattle.dap_accessed.specs.Effects.{told}
 use Rattle.dap_accessed.specs.Replies.{bare_status, coded, complete_response}
-use Rattle.dap_accessed.specs.Past.{next_ordinal}
+use Rattle.dap_accessed.specs.Past.{asked_file, next_ordinal}
 use Rattle.dap_accessed.specs.Records.{Putting, Updating, effect_of_change, get_pick, put_key, record_got, effect_of_outcome}
 use Rattle.dap_accessed.specs.Transfers.{fetch, store_one}
 use Rattle.dap_accessed.specs.Present.{Present}
@@ -34,7 +34,7 @@ step_move (steps.Enter phase) p = begins_group p phase
 step_move (steps.Reply answer phase) p = replies p (reply_message answer) phase
 step_move (steps.Configure limit) p =
     record { present = record p { limit = limit; phase = phases.Ready }; answers = Config p.setup.identity ∷ [] }
-step_move (steps.Keep shape) p = record { present = record p { kept = shape; phase = phases.Ready }; answers = [] }
+step_move (steps.Keep a) p = record { present = record p { kept = asked_file p.setup.full a; phase = phases.Ready }; answers = [] }
 step_move (steps.Access func name fac) p =
     if func == codes.accfunc.opening then opens p name.now fac
     else if func == codes.accfunc.creating then creates p name.now fac
@@ -61,7 +61,7 @@ abbrev pub CanDo : Files → Step → Type 0
 CanDo files (steps.Enter next) = IsOpenIn files next
 CanDo files (steps.Reply answer next) = IsShortReply answer × IsOpenIn files next
 CanDo files (steps.Configure limit) = min_buffer ≤ limit
-CanDo files (steps.Keep shape) = IfSome shape (λ s. IsTrue (is_shape s))
+CanDo files (steps.Keep a) = FieldsFit (Attrib a)
 CanDo files (steps.Access func name fac) = Unit {0}
 CanDo files (steps.Purge opened) = opened.at < length files
 CanDo files (steps.Get opened stream control) = opened.at < length files
@@ -75,7 +75,7 @@ CanDo files (steps.Store opened stream ordinal body) = opened.at < length files
 -- what takes no memory
 abbrev pub is_quiet : Step → Bool
 is_quiet (steps.Enter phase) = true
-is_quiet (steps.Keep shape) = true
+is_quiet (steps.Keep a) = true
 is_quiet (steps.Expect opened stream control) = true
 is_quiet step = false
 

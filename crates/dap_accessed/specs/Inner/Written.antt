@@ -10,6 +10,7 @@ use Rattle.dap_msg.specs.Sizes.{file_data_size}
 use Rattle.dap_msg.specs.BothEnds.{four_bytes, min_buffer}
 use Rattle.dap_msg.specs.Fitting.{FieldsFit}
 use Rattle.rec_file.specs.Limits.{max_record}
+use Rattle.rec_file.specs.Looks.{IsLook}
 use Rattle.dap_accessed.specs.declared.answers.Answer.{Answer}
 use Rattle.dap_accessed.specs.declared.answers.Answer.TheVariants as answer
 use Rattle.dap_accessed.specs.declared.fault.NoMemory.{NoMemory}
@@ -18,7 +19,7 @@ use Rattle.dap_accessed.specs.Served.{AreAnswers}
 
 abbrev pub reply_message : Answer → Message
 reply_message (answer.Config own) = Config own
-reply_message (answer.Attributes shape mrn) = attributes_for shape
+reply_message (answer.Attributes shape look mrn) = attributes_for shape look
 reply_message answer.Ack = Ack
 reply_message answer.Complete = complete_response
 reply_message (answer.Status code) = bare_status code
@@ -30,7 +31,7 @@ reply_message (answer.Record number body) = Filedata number body.now
 -- its numbers fit, its bytes are those of them, and a record is one that a file may have
 abbrev pub IsWritableReply : Answer → Type 0
 IsWritableReply (answer.Config own) = FieldsFit (Config own)
-IsWritableReply (answer.Attributes shape mrn) = mrn ≡ four_bytes shape.mrn
+IsWritableReply (answer.Attributes shape look mrn) = (mrn ≡ four_bytes shape.mrn) × IsLook shape look
 IsWritableReply (answer.Record number body) = length body.now ≤ max_record
 IsWritableReply _ = Unit {0}
 

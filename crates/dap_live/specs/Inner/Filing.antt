@@ -1,7 +1,7 @@
 -- What a node is given, in the steps of its functions.
 use Rattle.std.specs.Prelude.{◌≡◌, false, ℕ, List, [], length, MatchOption, Option, Some, None, replicate}
-use Rattle.rec_file.specs.declared.shapes.Shape.{Shape}
 use Rattle.nsp_link.specs.declared.link.LinkSetup.{LinkSetup}
+use Rattle.dap_accessed.specs.declared.asked.Asked.{Asked}
 use Rattle.dap_accessed.specs.declared.fault.AddFault.{AddFault}
 use Rattle.dap_accessed.specs.declared.fault.AddFault.TheVariants as add
 use Rattle.dap_accessed.specs.declared.setup.ServerSetup.{ServerSetup}
@@ -28,10 +28,10 @@ pub record HasNoBytes (own : ServerSetup) (links : ℕ) (usual : LinkSetup) (mos
   pub used : node.used ≡ replicate links false
   pub given : node.given ≡ None
 
--- a file of a shape is added while no link is used, or the reason why not is reported
-abbrev pub AddsShapedTo : Node → (name : List ℕ) → Shape → Node → List ℕ → Became → Type 0
-AddsShapedTo old name shape new text became =
-    DoneOr (λ became. became) (GivesFile name shape old new)
+-- a file is added as it is asked for while no link is used, or the reason why not is reported
+abbrev pub AddsNewTo : Node → (name : List ℕ) → Asked → Node → List ℕ → Became → Type 0
+AddsNewTo old name asked new text became =
+    DoneOr (λ became. became) (GivesFile name asked old new)
     (NodeNotGiven old.node (NotAdded old.node.noted.shared.setup.names old.node.noted.shared.files name)) add_refusal old new text became
 
 -- a record was added to the file of this name, if there is one

@@ -9,7 +9,7 @@ use Rattle.dap_msg.specs.declared.message.Message.TheVariants.{Config, Access, C
 use Rattle.dap_msg.specs.BothEnds.{message_limit}
 use Rattle.dap_msg.specs.declared.items.Item.{Item}
 use Rattle.dap_msg.specs.declared.items.Item.TheVariants.{Whole, Malformed}
-use Rattle.rec_file.specs.declared.shapes.Shape.{Shape}
+use Rattle.dap_accessed.specs.declared.asked.Asked.{Asked}
 use Rattle.rec_file.specs.declared.refusals.Refusal.{Refusal}
 use Rattle.rec_file.specs.declared.picks.Pick.{Pick}
 use Rattle.rec_file.specs.Files.{records_from}
@@ -24,7 +24,7 @@ use Rattle.std.specs.List.{prefix_len}
 use Rattle.dap_msg.specs.Codes as codes
 use Rattle.dap_accessed.specs.Replies.{bare_status}
 use Rattle.dap_accessed.specs.Standing.{index_by, index_to_erase, the_file, ServerState, Fresh, Ready, Opened, Connected, Store, Stopped, Group, Standing, Scene, Effect, enters, start}
-use Rattle.dap_accessed.specs.Past.{asked_shape, kept_attributes, is_dropping}
+use Rattle.dap_accessed.specs.Past.{asked_file, kept_attributes, is_dropping}
 use Rattle.dap_accessed.specs.Accesses.{rights_to_create, rights_to_erase, rights_to_open, erase_file, make_file, open_file, create_file, access_file, end_stream, complete}
 use Rattle.dap_accessed.specs.Records.{verb_of, get_pick, got, record_got, Change, Putting, Updating, effect_of_change, fits_limit, at_number}
 use Rattle.dap_accessed.specs.Transfers.{fetch, fetch_ends, continue_fetch}
@@ -53,11 +53,11 @@ module _ (P : ℕ → Type 0) where
     of-open own fac None = p
     of-open own fac (Some n) = of-either (lacks own.most (rights_to_open fac)) _ _ p p
 
-    of-make : (name : List ℕ) (fac : ℕ) (shape : Option Shape) → P (make_file scene name fac shape).scene.limit
+    of-make : (name : List ℕ) (fac : ℕ) (shape : Option Asked) → P (make_file scene name fac shape).scene.limit
     of-make name fac None = p
     of-make name fac (Some shape) = p
 
-    of-create : (own : ServerSetup) (name : List ℕ) (fac : ℕ) (at : Option ℕ) (shape : Option Shape) → P (create_file own scene name fac at shape).scene.limit
+    of-create : (own : ServerSetup) (name : List ℕ) (fac : ℕ) (at : Option ℕ) (shape : Option Asked) → P (create_file own scene name fac at shape).scene.limit
     of-create own name fac (Some n) shape = p
     of-create own name fac None shape = of-either (lacks own.most (rights_to_create fac)) _ _ p (of-make name fac shape)
 
@@ -65,7 +65,7 @@ module _ (P : ℕ → Type 0) where
     of-erase own None = p
     of-erase own (Some n) = of-either (lacks own.most rights_to_erase) _ _ p p
 
-    of-access : (own : ServerSetup) (a : AccessFields) (shape : Option Shape) → P (access_file own scene a shape).scene.limit
+    of-access : (own : ServerSetup) (a : AccessFields) (shape : Option Asked) → P (access_file own scene a shape).scene.limit
     of-access own a shape =
         let found = index_by own.names a.name scene.files in
         of-either (a.func == codes.accfunc.opening) _ _ (of-open own a.fac found)
@@ -133,7 +133,7 @@ module _ (P : ℕ → Type 0) where
     of-message : (own : ServerSetup) (past : List Group) (state : ServerState) (m : Message) → Fits (Whole m) → In (turn_in own scene past state m)
     of-message own past Fresh (Config c) q = of-config own (is_too_small c.bufsiz) c.bufsiz q
     of-message own past Fresh m q = p
-    of-message own past Ready (Access a) q = of-access own a (asked_shape (kept_attributes past))
+    of-message own past Ready (Access a) q = of-access own a (asked_file own.full (kept_attributes past))
     of-message own past Ready m q = p
     of-message own past (Opened o) (Control c) q = of-opened (verb_of c) o
     of-message own past (Opened o) (Accomp c) q = of-complete c.func o (Opened o)

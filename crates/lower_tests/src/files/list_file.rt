@@ -2,10 +2,11 @@
 //! are tried.
 
 ghost use Rattle.std.specs.Prelude.{◌≡◌, false, length, IsTrue};
-ghost use Rattle.std.specs.FinMap as map;
 ghost use Rattle.std.specs.List.Sorted.{IsBinarySearchResult, IsSearchInRange};
 ghost use Rattle.std.specs.Ordering.{nat_cmp};
 ghost use Rattle.rec_file.specs.Shapes.{is_shape, is_seq};
+ghost use Rattle.rec_file.specs.Files.{empty_file};
+ghost use Rattle.rec_file.specs.Looks.{plain_look};
 
 use rec_file::{OneWalk, RecordFile, Shape};
 use std::alloc::{AllocError, Global};
@@ -24,11 +25,12 @@ impl Model for ListFile {
     ghost use Rattle.std.specs.FinMap.{is_sorted};
     ghost use Rattle.rec_file.specs.Shapes.{is_seq};
     ghost use Rattle.rec_file.specs.Files.{FileVal, IsFile};
-    ghost use Rattle.lower_tests.specs.Inner.Lists.{test_file_code, list_file};
+    ghost use Rattle.rec_file.specs.Stored.{file_code};
+    ghost use Rattle.lower_tests.specs.Inner.Lists.{list_file};
 
     ghost Value = { FileVal };
 
-    ghost coded = { test_file_code };
+    ghost coded = { file_code };
 
     ghost view = { λ a. list_file a.shape (map (λ e. (e.0, e.1.items)) a.entries.items) };
 
@@ -51,7 +53,7 @@ impl ListFile {
     pub fn new(alloc: Global, shape: Shape) -> ListFile
         requires valid { IsTrue (is_shape shape) }
         requires relative { is_seq shape.org ≡ false }
-        ensures { result ≡ record { shape = shape; records = map.empty } }
+        ensures { result ≡ empty_file shape plain_look }
     {
         ListFile {
             shape,

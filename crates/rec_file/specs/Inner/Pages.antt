@@ -7,6 +7,7 @@ use Rattle.std.specs.Ordering.{nat_cmp}
 use Rattle.std.specs.List.{filter_map}
 use Rattle.std.specs.Int.{bit_at}
 use Rattle.std.specs.FinMap.{from_entries, get}
+use Rattle.rec_file.specs.declared.look.Look.{Look}
 use Rattle.rec_file.specs.declared.shapes.Shape.{Shape}
 use Rattle.rec_file.specs.Limits.{max_record_number}
 use Rattle.rec_file.specs.Files.{FileVal, lowest_from}
@@ -71,8 +72,9 @@ abbrev pub paged : List (ℕ × Cells) → List (ℕ × List ℕ)
 paged [] = []
 paged (p ∷ ps) = numbered_cells (64 * p.0 + 1) p.1 ++ paged ps
 
-abbrev pub paged_file : Shape → List (ℕ × Cells) → FileVal
-paged_file shape pages = record { shape = shape; records = from_entries (paged pages) }
+-- the file of a shape, a look and pages
+abbrev pub paged_file : Shape → Look → List (ℕ × Cells) → FileVal
+paged_file shape look pages = record { shape = shape; look = look; records = from_entries (paged pages) }
 
 -- the pages of a list of page numbers and slots, with their numbers
 abbrev pub pages_at : (ℕ → Option Cells) → List (ℕ × ℕ) → List (ℕ × Cells)

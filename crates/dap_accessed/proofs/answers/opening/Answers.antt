@@ -9,7 +9,7 @@ use Rattle.dap_accessed.proofs.answers.opening.Goals as goal
 
 pub returns : goal.returns
 returns c =
-    c.in_ok-append-2.ensures (reply_message (answer.Attributes c.args.shape (four_bytes c.args.shape.mrn)) ∷ [])
+    c.in_ok-append-2.ensures (reply_message (answer.Attributes c.args.shape c.args.look (four_bytes c.args.shape.mrn)) ∷ [])
     (c.in_ok-append.ensures [] (record {
       bytes = ap bodies c.new-answers.ensures.items;
       within = subst (λ (l : List (Vec ℕ)). AllAtMost c.args.limit (bodies l)) (sym c.new-answers.ensures.items) tt;

@@ -20,8 +20,8 @@ returns-clause-ok c =
     sym (position-alike view (λ (e : Entry). e.0) (λ (f : List ℕ × FileVal). bytes_eq f.0 name) (λ (k : Vec ℕ). bytes_eq key.items k.items)
     (λ e. nat_list_eq_equiv.symm e.0.items name ∙ ap (λ (n : List ℕ). bytes_eq n e.0.items) (sym c.in_ok-name.ensures.items)) es)
     ∙ ap (index_of name) c.self.view_is ∙ c.requires.new in
-    ap (map view) (c.in_ok-insert.ensures.entries ∙ insert_entry-new (λ (a b : Vec ℕ). bytes_eq a.items b.items) c.self.inside.files key c.new-file.result (absent _ es none))
-    ∙ map-last view es (key, c.new-file.result)
-    ∙ ap (λ (files : Files). files ++ view (key, c.new-file.result) ∷ []) c.self.view_is
-    ∙ ap (λ (n : List ℕ). c.args.self.now ++ (n, any_value c.new-file.result) ∷ []) c.in_ok-name.ensures.items
-    ∙ ap (λ (f : FileVal). c.args.self.now ++ (name, f) ∷ []) c.new-file.ensures
+    ap (map view) (c.in_ok-insert.ensures.entries ∙ insert_entry-new (λ (a b : Vec ℕ). bytes_eq a.items b.items) c.self.inside.files key c.with_look-file.result (absent _ es none))
+    ∙ map-last view es (key, c.with_look-file.result)
+    ∙ ap (λ (files : Files). files ++ view (key, c.with_look-file.result) ∷ []) c.self.view_is
+    ∙ ap (λ (n : List ℕ). c.args.self.now ++ (n, any_value c.with_look-file.result) ∷ []) c.in_ok-name.ensures.items
+    ∙ ap (λ (f : FileVal). c.args.self.now ++ (name, f) ∷ []) c.with_look-file.ensures

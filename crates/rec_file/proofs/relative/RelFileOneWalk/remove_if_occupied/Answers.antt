@@ -1,6 +1,7 @@
 use Rattle.std.proofs.Common.{◌≡◌, ◌≤◌, ℕ, cond, Bool, true, false, List, length, Option, Some, None, IfSome, IsSome, is_some, inl, inr, refl, set, sym, ap, subst, ◌∙◌, arith}
 use Rattle.std.specs.Prelude.{MatchBool}
 use Rattle.slab.specs.Slab.{Slab, get, slab_len, with_value}
+use Rattle.rec_file.specs.declared.look.Look.{Look}
 use Rattle.rec_file.specs.declared.shapes.Shape.{Shape}
 use Rattle.rec_file.specs.Shapes.{is_seq}
 use Rattle.rec_file.specs.Files.{FileVal, IsFile, file_without_record}
@@ -15,7 +16,7 @@ use Rattle.rec_file.proofs.RelativeLaws.{HoldsFile, held, here, absent, zero_is_
 use Rattle.rec_file.proofs.PlacedLaws.{no-page, its-page, stands, page-written, page-removed, own-less, len-written, length-removed}
 use Rattle.rec_file.proofs.relative.RelFileOneWalk.remove_if_occupied.Goals as goal
 
-module _ (s : Shape) (pages pages' : Slab Cells) (es es' : List (ℕ × ℕ)) (f : FileVal) (h : HoldsFile s (pages_at (get pages) es) f) (n : ℕ) (least : 1 ≤ n) where
+module _ {l : Look} (s : Shape) (pages pages' : Slab Cells) (es es' : List (ℕ × ℕ)) (f : FileVal) (h : HoldsFile s l (pages_at (get pages) es) f) (n : ℕ) (least : 1 ≤ n) where
   its : (e : HasEmptied es pages (page_of n) (cell_of n)) → at (pages_at (get pages) es) (page_of n) ≡ Some e.cells
   its e = its-page (get pages) es _ e.slot e.cells (sym (lookup_is_at es _) ∙ e.has) e.there
 
@@ -33,15 +34,15 @@ module _ (s : Shape) (pages pages' : Slab Cells) (es es' : List (ℕ × ℕ)) (f
       by (Some i) has none = of i (get pages i) has refl none
 
   -- the file without it
-  after : (own : HaveOwnSlots es) (b : Bool) → Clears es es' pages pages' (page_of n) (cell_of n) b → HoldsFile s (pages_at (get pages') es') (cond b (file_without_record f n) f)
+  after : (own : HaveOwnSlots es) (b : Bool) → Clears es es' pages pages' (page_of n) (cell_of n) b → HoldsFile s l (pages_at (get pages') es') (cond b (file_without_record f n) f)
   after own false (none, same, pages_same) =
-      subst (λ p. HoldsFile s (pages_at (get p) es') f) (sym pages_same) (subst (λ l. HoldsFile s (pages_at (get pages) l) f) (sym same) h)
+      subst (λ p. HoldsFile s l (pages_at (get p) es') f) (sym pages_same) (subst (λ ss. HoldsFile s l (pages_at (get pages) ss) f) (sym same) h)
   after own true (e, inl stays) =
-      subst (λ ps. HoldsFile s ps (file_without_record f n))
+      subst (λ ps. HoldsFile s l ps (file_without_record f n))
       (sym (ap (λ p. pages_at (get p) es') stays.written ∙ ap (pages_at (get (with_value pages e.slot (set e.cells (cell_of n) None)))) stays.slots ∙ page-written pages es _ e.slot e.cells _ _ own e.has e.there refl))
       (clear_in_page _ _ f h n e.cells least (its e) stays.others)
   after own true (e, inr goes) =
-      subst (λ ps. HoldsFile s ps (file_without_record f n)) (sym (page-removed pages pages' es es' _ e.slot e.cells _ own e.has e.there goes.free goes.slots)) (drop_page _ _ f h n e.cells least (its e) goes.none)
+      subst (λ ps. HoldsFile s l ps (file_without_record f n)) (sym (page-removed pages pages' es es' _ e.slot e.cells _ own e.has e.there goes.free goes.slots)) (drop_page _ _ f h n e.cells least (its e) goes.none)
 
   -- the pages that are left have slots of their own
   kept : HaveOwnSlots es → slab_len pages ≡ length es → (b : Bool) → Clears es es' pages pages' (page_of n) (cell_of n) b → HaveOwnSlots es' × (slab_len pages' ≡ length es')
