@@ -56,7 +56,7 @@ def serve(words, opened):
         opened(kept)
     journal = open_journal(words, opened) if words.store is not None else None
     end = opened(start_end(words, signals))
-    space, store, left, is_changed = Space(end, words.space), None, [], False
+    space, store, left, is_changed = Space(end, words.space, words.names == command.VERSIONS), None, [], False
     if journal:
         store, left = open_store(words, journal, opened, end, space, signals)
     else:

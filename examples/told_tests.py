@@ -41,6 +41,8 @@ WORDS = [
     ("ask --remote 1 --local 000g", f"--local 000g: {ADDRESS}"),
     ("serve --segment +512", f"--segment +512: {NUMBER}"),
     ("serve --links 2 --local 0303", "--local 0303: with several links the addresses are those of 'new'"),
+    ("serve --names upper", "--names upper: names are exact, folded or versions"),
+    ("serve --names folded --keep 2", "--keep 2: goes with --names versions alone"),
 ]
 NODES = "--between: two nodes, as 1.1 1.2"
 CAPTURE_WORDS = [

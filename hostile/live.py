@@ -100,6 +100,7 @@ UNREAD = [
     (["ask", "--window", "0"], 2),
     (["ask", "--syscap", "g"], 2),
     (["serve", "--names", "upper"], 2),
+    (["serve", "--names", "folded", "--keep", "2"], 2),
 ]
 # Lines of short answers, for which each read and each write is tried; the last has no end.
 SHORT = {

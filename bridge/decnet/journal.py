@@ -150,8 +150,8 @@ class Journal(LockedFile):
 
     @property
     def made_with(self):
-        """The words of the live end that was told its packets; None where it has none."""
-        return HEAD.fullmatch(self.parsed.lines[0])[2] if self.parsed.told else None
+        """The words of the live end that was told its lines; None where it is empty."""
+        return None if self.is_empty else HEAD.fullmatch(self.parsed.lines[0])[2]
 
     def begin(self, program):
         """`program` says which live end is told, and with which words; a fault where another one was told its packets."""

@@ -3,7 +3,7 @@ import dataclasses
 import os
 import re
 
-from decnet import frames, log, nsp, privileges, routing, udp, wire
+from decnet import frames, log, nsp, privileges, program, routing, udp, wire
 from decnet.client import InputFault
 from decnet.end import Answer, End, EndFault
 from decnet.folder import Folder
@@ -18,9 +18,11 @@ from decnet.server import Entry, load, replay
 from decnet.stored import Store, StoredEnd, program_of
 from decnet.users import Guard, Users
 from decnet.waiting import MOST, WINDOW
+from decnet.words import VERSIONS, fault_of_keep
 
 OF_END = ("window", "buffer", "ostype", "filesys", "syscap")  # options of a live end, as it has them
-OF_SERVER = (*OF_END, "waiting", "names", "links")
+OF_NAMES = ("names", "keep")
+OF_SERVER = (*OF_END, "waiting", *OF_NAMES, "links")
 COUNTED = ("window", "waiting", "links")  # those that the bridge counts with
 NO_OPTION = {"links": 1}  # a live end that isn't told how many has one, whose lines don't name it
 OF_LINES = re.compile(r"(daplive: line|bad line) \d+")  # the live end counts lines that the user never saw
@@ -62,9 +64,13 @@ def open_wire(words):
 def words_of_end(words):
     """The words of the live end."""
     is_server = words.role == "serve"
-    held = {name: getattr(words, name) for name in (OF_SERVER if is_server else OF_END)}
-    options = [word for name, value in held.items() if value not in (None, NO_OPTION.get(name)) for word in (f"--{name}", str(value))]
-    return ["serve" if is_server else "ask", *options]
+    return ["serve" if is_server else "ask", *spelled(words, OF_SERVER if is_server else OF_END)]
+
+
+def spelled(words, names):
+    """The options of these names that the live end has to be told, each with its value."""
+    held = {name: getattr(words, name) for name in names}
+    return [word for name, value in held.items() if value not in (None, NO_OPTION.get(name)) for word in (f"--{name}", str(value))]
 
 
 def start_end(words, signals):
@@ -114,22 +120,44 @@ def load_files(words, kept, end, space, signals):
 
 
 def open_journal(words, opened):
-    """The file of --store. Where it has packets, options that aren't given are those that it was made with."""
+    """The file of --store. Options that aren't given may be those that it was made with."""
     journal = opened(Journal(words.store, words.sync))
-    if journal.made_with is not None and recall(words, journal.made_with):
-        log.say(f"{words.store}: it has packets, and goes on with the options that it was made with: '{journal.made_with}'")
+    if not journal.is_empty:
+        go_on_as_made(words, journal)
+    fault = fault_of_keep(words)
+    if fault:
+        raise program.Fault(fault, program.WORDS)
     return journal
 
 
-def recall(words, made_with):
-    """Options of the live end that aren't given are those of these words; whether that changes any."""
-    before, (_, *made) = words_of_end(words), made_with.split(" ")
-    found = {name: NO_OPTION.get(name) for name in OF_SERVER} | {name[2:]: value for name, value in zip(made[::2], made[1::2])}
+def go_on_as_made(words, journal):
+    """Recalls all options where there are packets. Where the files alone are there it recalls how names are compared, if that is by
+    versions: without them nobody would find a file by its name."""
+    made_with = journal.made_with
+    if journal.parsed.told:
+        if recall(words, made_with):
+            log.say(f"{words.store}: it has packets, and goes on with the options that it was made with: '{made_with}'")
+    elif options_in(made_with).get("names") == VERSIONS and recall(words, made_with, OF_NAMES):
+        log.say(f"{words.store}: it has versions of files, and goes on with {' '.join(spelled(words, OF_NAMES))}")
+
+
+def options_in(made_with):
+    """The options of a live end, by its words."""
+    _, *made = made_with.split(" ")
+    return {name[2:]: value for name, value in zip(made[::2], made[1::2])}
+
+
+def recall(words, made_with, names=OF_SERVER):
+    """Those of these options of the live end that aren't given are as in its words; whether that changes any."""
+    before, found = words_of_end(words), {name: NO_OPTION.get(name) for name in OF_SERVER} | options_in(made_with)
     try:
         found.update({name: int(found[name]) for name in COUNTED if found[name] is not None})
     except ValueError:  # these are no words of a bridge, and the store isn't taken
         return False
-    words.given.update({name: found[name] for name in OF_SERVER if name not in words.given})
+    recalled = {name: found[name] for name in names if name not in words.given}
+    if words.given.get("names", found["names"]) != VERSIONS:
+        recalled.pop("keep", None)
+    words.given.update(recalled)
     return words_of_end(words) != before
 
 

@@ -8,8 +8,9 @@ from decnet.locked import KeptFault
 NOBODY = "nobody"
 ROOT = 0
 READ = ("files", "users", "against")  # options with files that are read later on
-WRITTEN = ("save", "store", "keep")  # with files that are written, and written anew beside their names
+WRITTEN = ("save", "store", "answers")  # with files that are written, and written anew beside their names
 NAMING = (*READ, *WRITTEN, "folder", "log", "pcap")  # options that name a file
+SPELLED = {"answers": "keep"}  # of those that have another name on the command line
 
 
 def find(name):
@@ -48,7 +49,7 @@ def why_root(words):
     """Becomes nobody; or why it doesn't."""
     named = [name for name in NAMING if getattr(words, name) is not None]
     if named:
-        return f"since --{named[0]} names a file"
+        return f"since --{SPELLED.get(named[0], named[0])} names a file"
     if words.host not in (None, "-"):
         return f"since {words.host} is a file"
     if not can_run(words.daplive):

@@ -25,8 +25,8 @@ def test(words, opened, closed):
         found.beside = probe.Beside(opened(end_beside(words)))
     node.start()
     found.run(tell_progress)
-    if words.keep is not None:
-        probe.keep(words.keep, found.talks, found.other)
+    if words.answers is not None:
+        probe.keep(words.answers, found.talks, found.other)
     return print_verdicts(found, before, found.erase(), words, lister)
 
 

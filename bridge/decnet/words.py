@@ -19,6 +19,8 @@ from decnet.rights import are_rights
 from decnet.talks import Names, talks
 from decnet.texts import MAX_NUMBER, RECORD_LIMIT
 
+VERSIONS = "versions"  # the value of --names with which a file has versions
+MAX_VERSION = 32767
 PASSWORD_LIMIT = 65536
 SYSCAP = re.compile(r"[0-9A-Fa-f]{1,21}")
 TALKS = [talk.name for talk in talks(Names(""))]
@@ -209,8 +211,11 @@ def add_keeping(parser):
 
 
 def add_names(parser):
-    parser.add_argument("--names", choices=("exact", "folded"),
-                        help="whether DATA.TXT;1, [DIR]DATA.TXT and data.txt are one name (default exact)")
+    parser.add_argument("--names", choices=("exact", "folded", VERSIONS),
+                        help="whether DATA.TXT;1, [DIR]DATA.TXT and data.txt are one name: exact, no; folded, yes; versions, yes, and "
+                             "a file that is made anew is its next version (default exact)")
+    parser.add_argument("--keep", type=number(1, MAX_VERSION), metavar="N",
+                        help="with --names versions: one more than this many of a file replaces the lowest, 1 to 32767 (default 3)")
 
 
 def add_entry(parser):
@@ -265,10 +270,13 @@ def add_probing(parser):
     parser.add_argument("--quiet", type=number(0.01, 60, float), metavar="SECONDS",
                         help="an answer is over when nothing came for this time (default 2)")
     parser.add_argument("--only", metavar="NAME", nargs="+", action="extend", help="only these conversations")
-    parser.add_argument("--keep", metavar="FILE", help="write the answers to a new file")
     parser.add_argument("--against", metavar="FILE",
                         help="compare with answers that --keep wrote, in place of those of the proved end")
     parser.add_argument("--dapcap", metavar="PROGRAM", help=dapcap.HELP)
+
+
+def add_answers(parser):
+    parser.add_argument("--keep", dest="answers", metavar="FILE", help="write the answers to a new file")
 
 
 # ---- what isn't an option
@@ -343,7 +351,7 @@ ROLES = {
     "put": Kind("put a record into a node's file", "NODE::NAME TEXT", f"1.2::DATA.TXT 'one more line' {WAY} 1.1",
                 (add_put, add_patience), others=(add_changed,), **CLIENT),
     "probe": Kind("test a node's file access listener beside the proved one", "--to NODE", f"--to 1.2 {WAY} 1.1",
-                  (add_probing, add_patience), **CLIENT),
+                  (add_probing, add_answers, add_patience), **CLIENT),
     "password": Kind("print the line of --users for a user and the password on standard input", "NAME [--rights RIGHTS]",
                      "SMITH --rights get,put >>users", (), others=(add_password,)),
 }
@@ -368,17 +376,18 @@ def build():
     return parser, found
 
 
-def add_groups(parser, role):
+def add_groups(parser, role, without=()):
     for title, adding in ROLES[role].groups:
         group = parser.add_argument_group(title)
         for add in adding:
-            add(group)
+            if add not in without:
+                add(group)
 
 
 def options_of(role):
-    """A parser of a role's options alone."""
+    """A parser of those options of a role that a file of options may have. There --keep is a number of versions."""
     parser = Parser(prog="bridge.py", add_help=False, usage=argparse.SUPPRESS)
-    add_groups(parser, role)
+    add_groups(parser, role, without=(add_answers,))
     return parser
 
 
@@ -515,8 +524,25 @@ def check(parser, words):
     if words.folder is not None and words.files is not None:
         parser.error("--files: not with --folder, which has the files")
     words.given.setdefault("daplive", os.environ.get("DAPLIVE") or DAPLIVE)
-    if words.role != "serve":
+    if words.role == "serve":
+        check_names(parser, words)
+    else:
         check_other(parser, words)
+
+
+def check_names(parser, words):
+    """The same of versions. A store that goes on with its names says later whether they have some."""
+    if words.names == VERSIONS and words.folder is not None:
+        parser.error("--names versions: not with --folder, which has one file of a name")
+    if words.names is not None or words.store is None:
+        fault = fault_of_keep(words)
+        if fault:
+            parser.error(fault)
+
+
+def fault_of_keep(words):
+    """What is wrong with how many versions are kept; None where nothing is."""
+    return None if words.keep is None or words.names == VERSIONS else f"--keep {words.keep}: goes with --names versions alone"
 
 
 def check_copy(parser, given, words):

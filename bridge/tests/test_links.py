@@ -173,6 +173,22 @@ class SharedTest(LinksCase):
             self.finish_asking(child)
         self.stop(server)
 
+    def test_a_version_that_a_link_reads_is_not_replaced(self):
+        server = self.server(*self.words, "--names", "versions", "--keep", "1")
+        first, second = (self.client(node, "--go-on") for node in NODES[:2])
+        for child in (first, second):
+            self.say(child, "hello", "report ready 8192")
+        self.say(first, OPEN_TO_READ, OPENED)
+        self.say(second, "create 46 0 2 0 0 1", LOCKED)
+        server.wait_for("a file that it wants is open over link")
+        self.say(second, "create 48 0 2 0 0 1", OPENED, "purge", "report closed")
+        self.say(first, "connect", "report connected", "get", "report found 1 41", "close", "report closed")
+        self.say(second, "create 46 0 2 0 0 1", OPENED, "close", "report closed")
+        self.finish_asking(first)
+        self.finish_asking(second, 1)
+        self.stop(server)
+        self.assertEqual(file_lines(self.path), ["file 473b31 seq variable 0 0", "  1 42", "file 463b32 seq variable 0 0"])
+
     def test_who_is_gone_keeps_a_file_no_longer_than_the_link_is_silent(self):
         server = self.server(*self.words)
         gone = self.far_station("1.9")

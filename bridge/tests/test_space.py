@@ -1,7 +1,7 @@
 """How much a link may store: what is counted, and what becomes of a link that stores more."""
 from decnet import dap, messages, nsp
 from decnet.nsp import Kind, Reason
-from decnet.space import LISTED, Space
+from decnet.space import LISTED, NUMBERED, Space
 from tests.datagrams import UdpCase
 from tests.station import CONFIGURATION, segment
 from tests.support import Case, expect_equal
@@ -11,14 +11,14 @@ ERASE = b"\x03\0\4\0\1F\0\0\0\0"  # an Access that erases one
 
 
 class CountTest(Case):
-    def space(self, sizes, most=1000):
+    def space(self, sizes, most=1000, **more):
         """Before a live end that lists files of these sizes, one after another."""
         self.sizes = self.folder / "sizes"
         self.sizes.write_text(" ".join(map(str, sizes)))
         end = self.end("serve", program=self.stand_in(
             f"first, *rest = open({str(self.sizes)!r}).read().split()\nopen({str(self.sizes)!r}, 'w').write(' '.join(rest or [first]))\n"
             "return ['x' * (int(first) - 1)]"))
-        return Space(end, most), end
+        return Space(end, most, **more), end
 
     def settle(self, end):
         while end.is_busy:
@@ -42,6 +42,18 @@ class CountTest(Case):
         space.take(21)
         self.settle(end)
         self.assertTrue(space.is_full)
+
+    def test_the_name_of_a_version_is_counted(self):
+        space, end = self.space([500], has_versions=True)
+        list(space.noted([(1, "file 46 seq variable 0 0"), (2, "  1 41"), (3, "> " + "00" * 20)]))
+        self.assertEqual(space.used, 25 + NUMBERED + 7 + LISTED * 21)
+        before = space.used
+        space.take(10)
+        self.assertEqual(space.used, before + LISTED * 10 + NUMBERED)
+        space.take(200)
+        self.settle(end)
+        space.take(10)
+        self.assertEqual(space.used, 500 + LISTED * 10 + NUMBERED)
 
     def test_there_is_space_again_where_files_are_gone(self):
         space, end = self.space([990, 300])
@@ -67,9 +79,31 @@ class CountTest(Case):
                 fields = dict(list(values.items())[:count])
                 kept = messages.attributes(**{name: value for name, value in fields.items() if name not in ("org", "mrs", "mrn")})
                 numbers = f"{fields.get('mrs', 0)} {fields.get('mrn', 0)}"
-                line = f"file {'00' * size or '-'} seq variable {numbers}" + (f" kept={kept.hex()}" if len(kept) > 4 else "") + "\n"
+                rest = f" seq variable {numbers}" + (f" kept={kept.hex()}" if len(kept) > 4 else "") + "\n"
                 sent = len(messages.attributes(**fields)) - 1 + 5 + size if fields else 5 + size
+                line, version = f"file {'00' * size or '-'}{rest}", f"file {'00' * size}{b';32767'.hex()}{rest}"
                 self.assertLessEqual(len(line), LISTED * sent, line)
+                self.assertLessEqual(len(version), LISTED * sent + NUMBERED, version)
+
+    def test_files_of_the_real_end_take_no_more_than_was_counted(self):
+        """Given by lines, and made by segments as short as they can be: of no name, and of two names."""
+        for names in ("exact", "folded", "versions"):
+            end = self.end("serve", "--names", names)
+            space = Space(end, 1 << 30, names == "versions")
+
+            def check(line, answer):
+                self.assertEqual(end.say(line)[:1], answer)
+                self.assertGreaterEqual(space.used, sum(len(one) + 1 for one in end.say("files")), (names, line))
+
+            for line in ("file 3b3332373636 seq variable 0 0", "  1 -", "file 412e42 seq variable 0 0 kept=0202020802", "  1 41"):
+                list(space.noted([(1, line)]))
+                check(line, [])
+            made = [CONFIGURATION, b"\3\0\2\0\0", b"\7\0\1", b"\3\2\4\2\0\1C\7\2\1\1\3\0\2\0\1D"]
+            for number, body in enumerate(made, 1):
+                if dap.may_change(body):
+                    space.take(len(body))
+                check("> " + segment(0x0202, 0x0101, number, body).hex(), ["accepted"])
+            self.assertEqual(end.say("files")[-1], f"file {'443b31' if names == 'versions' else '44'} seq variable 0 0")
 
     def test_attributes_are_counted_and_no_others_that_change_nothing(self):
         kept = messages.attributes(rat=2)

@@ -43,7 +43,8 @@ use Rattle.std.specs.List.{prefix_len, AllByRecursion}
 use Rattle.std.proofs.lemmas.List.Sums.{take_while-cons}
 use Rattle.dap_msg.specs.BothEnds.{message_limit}
 use Rattle.dap_accessed.specs.Standing.{Files, enters}
-use Rattle.dap_accessed.specs.Standing.{index_by, index_to_erase, file_at, the_file, ServerState, Fresh, Ready, Opened, Connected, Store, Stopped, Group, Standing, Scene, Effect}
+use Rattle.dap_accessed.specs.Standing.{file_at, the_file, ServerState, Fresh, Ready, Opened, Connected, Store, Stopped, Group, Standing, Scene, Effect}
+use Rattle.dap_accessed.specs.Naming.{index_by, index_to_erase, number_made}
 use Rattle.dap_accessed.specs.Past.{asked_file, kept_attributes, is_dropping, ordinal_so_far, next_ordinal}
 use Rattle.dap_accessed.specs.Replies.{bare_status, reason_status, sync_status, reason_of, refusal_status, done_status, record_status, too_large, coded, complete_response, opened_with}
 use Rattle.dap_accessed.specs.Accesses.{effect_if_permitted, rights_to_create, rights_to_erase, erase_file, rights_to_open, make_file, open_file, create_file, access_file, end_stream, complete}
@@ -167,13 +168,13 @@ module _ (own : ServerSetup) (small_own : FieldsFit (Config own.identity)) (scen
   opening fac (Some at) h =
       permitting (rights_to_open fac) _ (opened scene.limit least (file_at at scene.files).shape (file_at at scene.files).look (file-there scene.files at files h).shape (file-there scene.files at files h).look)
 
-  making : (name : List ℕ) (fac : ℕ) (shape : Option Asked) → Good shape → Sends (make_file scene name fac shape)
-  making name fac None g = (reasoned scene.limit least own.full 0x4000 11 [] (lit< tt) (lit≤ tt), tt)
-  making name fac (Some asked) g = opened scene.limit least asked.shape asked.look g.shape g.look
+  making : (new : List ℕ) (fac : ℕ) (replaced : Option ℕ) (shape : Option Asked) → Good shape → Sends (make_file scene new fac replaced shape)
+  making new fac replaced None g = (reasoned scene.limit least own.full 0x4000 11 [] (lit< tt) (lit≤ tt), tt)
+  making new fac replaced (Some asked) g = opened scene.limit least asked.shape asked.look g.shape g.look
 
-  creating : (name : List ℕ) (fac : ℕ) (at : Option ℕ) (shape : Option Asked) → Good shape → Sends (create_file own scene name fac at shape)
-  creating name fac (Some at) shape g = (reasoned scene.limit least own.full 0x4000 1 [] (lit< tt) (lit≤ tt), tt)
-  creating name fac None shape g = permitting (rights_to_create fac) _ (making name fac shape g)
+  creating : (name : List ℕ) (fac : ℕ) (number : Option ℕ) (shape : Option Asked) → Good shape → Sends (create_file own scene name fac number shape)
+  creating name fac None shape g = (reasoned scene.limit least own.full 0x4000 1 [] (lit< tt) (lit≤ tt), tt)
+  creating name fac (Some n) shape g = permitting (rights_to_create fac) _ (making _ fac _ shape g)
 
   erasing : (at : Option ℕ) → Sends (erase_file own scene at)
   erasing None = (bare scene.limit least 0x4032 (lit< tt), tt)
@@ -183,7 +184,7 @@ module _ (own : ServerSetup) (small_own : FieldsFit (Config own.identity)) (scen
   accessing a shape g =
       let found = index_by own.names a.name scene.files in
       either (a.func == codes.accfunc.opening) _ _ (opening a.fac found (index-within own.names a.name scene.files))
-      (either (a.func == codes.accfunc.creating) _ _ (creating a.name a.fac found shape g)
+      (either (a.func == codes.accfunc.creating) _ _ (creating a.name a.fac (number_made own.names a.name scene.files) shape g)
       (either (own.full && a.func == codes.accfunc.erasing) _ _ (erasing (index_to_erase own.names a.name scene.files))
       (bare scene.limit least 0x20C0 (lit< tt), tt)))
 

@@ -23,7 +23,8 @@ use Rattle.dap_accessed.specs.declared.verbs.Verb.{Verb}
 use Rattle.dap_accessed.specs.declared.verbs.Verb.TheVariants as verbs
 use Rattle.dap_accessed.specs.Setup.{lacks, same_name}
 use Rattle.dap_accessed.specs.Replies.{bare_status}
-use Rattle.dap_accessed.specs.Standing.{Files, index_by, index_to_erase, with_file, the_file, ServerState, Fresh, Ready, Opened, Connected, Store, Stopped, Group, Standing, Scene, Effect, start, enters}
+use Rattle.dap_accessed.specs.Standing.{Files, with_file, the_file, ServerState, Fresh, Ready, Opened, Connected, Store, Stopped, Group, Standing, Scene, Effect, start, enters}
+use Rattle.dap_accessed.specs.Naming.{files_without, index_by, index_to_erase, name_with, number_made}
 use Rattle.dap_accessed.specs.Past.{asked_file, kept_attributes, is_dropping}
 use Rattle.dap_accessed.specs.Accesses.{rights_to_create, rights_to_erase, erase_file, rights_to_open, make_file, open_file, create_file, access_file, end_stream, complete}
 use Rattle.dap_accessed.specs.Records.{at_number, verb_of, get_pick, got, record_got, Change, Putting, Updating, effect_of_change, fits_limit}
@@ -32,7 +33,8 @@ use Rattle.dap_accessed.specs.Effects.{Begun, Turn, Does, BeginsGroup, control_o
 use Rattle.dap_accessed.specs.Groups.{GroupedItems, After, stands_after, next_group, more_after}
 use Rattle.dap_accessed.specs.Apart.{NamesAreApart}
 use Rattle.dap_accessed.proofs.Cuts.{cut-more}
-use Rattle.dap_accessed.proofs.SoundTables.{distinct-with, distinct-without, distinct-more, none-passes}
+use Rattle.dap_accessed.proofs.SoundTables.{HasNo, distinct-with, distinct-without, distinct-more}
+use Rattle.dap_accessed.proofs.NewNames.{left-apart, left-distinct, made-apart}
 
 module _ (own : ServerSetup) where
   abbrev same : (one other : List ℕ) → Bool
@@ -67,14 +69,14 @@ module _ (own : ServerSetup) where
     opening fac None = stays
     opening fac (Some at) = either (lacks own.most (rights_to_open fac)) _ _ stays stays
 
-    making : (name : List ℕ) (fac : ℕ) (shape : Option Asked) → index_by own.names name scene.files ≡ None → Leaves (make_file scene name fac shape)
-    making name fac None none = stays
-    making name fac (Some shape) none = λ h.
-        distinct-more same scene.files (name, made_file shape) h (none-passes (λ (f : List ℕ × FileVal). same f.0 name) scene.files none)
+    making : (new : List ℕ) (fac : ℕ) (replaced : Option ℕ) (shape : Option Asked) → HasNo same new scene.files → Leaves (make_file scene new fac replaced shape)
+    making new fac replaced None none = stays
+    making new fac replaced (Some shape) none = λ h.
+        distinct-more same (files_without replaced scene.files) (new, made_file shape) (left-distinct own.names replaced scene.files h) (left-apart own.names new replaced scene.files none)
 
-    creating : (name : List ℕ) (fac : ℕ) (found : Option ℕ) (shape : Option Asked) → index_by own.names name scene.files ≡ found → Leaves (create_file own scene name fac found shape)
-    creating name fac (Some at) shape e = stays
-    creating name fac None shape e = either (lacks own.most (rights_to_create fac)) _ _ stays (making name fac shape e)
+    creating : (name : List ℕ) (fac : ℕ) (number : Option ℕ) (shape : Option Asked) → number_made own.names name scene.files ≡ number → Leaves (create_file own scene name fac number shape)
+    creating name fac None shape e = stays
+    creating name fac (Some n) shape e = either (lacks own.most (rights_to_create fac)) _ _ stays (making (name_with own.names name n) fac _ shape (made-apart own.names name scene.files n e))
 
     erasing : (found : Option ℕ) → Leaves (erase_file own scene found)
     erasing None = stays
@@ -84,7 +86,7 @@ module _ (own : ServerSetup) where
     accessing a shape =
         let found = index_by own.names a.name scene.files in
         either (a.func == codes.accfunc.opening) _ _ (opening a.fac found)
-        (either (a.func == codes.accfunc.creating) _ _ (creating a.name a.fac found shape refl)
+        (either (a.func == codes.accfunc.creating) _ _ (creating a.name a.fac (number_made own.names a.name scene.files) shape refl)
         (either (own.full && a.func == codes.accfunc.erasing) _ _ (erasing (index_to_erase own.names a.name scene.files)) stays))
 
     purging : (o : OpenFile) (new : Bool) → Keeps scene.files (if new then remove scene.files o.at else scene.files)

@@ -17,7 +17,7 @@ pub use Rattle.dap_accessed.proofs.Writing.{kept_fits}
 -- the attributes of a file ask for such a file
 pub use Rattle.dap_accessed.proofs.AskingBack.{attributes-back, look-back}
 -- the index of a name is within the table
-pub use Rattle.dap_accessed.proofs.SoundGroups.{index-within}
+pub use Rattle.dap_accessed.proofs.SoundGroups.{erased-within, index-within, replaced-within}
 -- each answer to one message more has a spelling that the peer takes
 pub use Rattle.dap_accessed.proofs.Answering.{HasShortType, added-sends}
 -- before a Config the answers don't depend on the files, and the end stood so after each front of the items too
@@ -27,7 +27,9 @@ pub use Rattle.dap_accessed.proofs.Tables.{with-same, length-with}
 -- an Access uses up the attributes
 pub use Rattle.dap_accessed.proofs.StepIs.{access-keeps}
 -- a file with another in its place, one less, or one more of a new name: files stay files, and their names apart
-pub use Rattle.dap_accessed.proofs.SoundTables.{all-without, distinct-more, distinct-with, distinct-without, files-more, files-with, none-passes, none_exact}
+pub use Rattle.dap_accessed.proofs.SoundTables.{all-without, distinct-more, distinct-with, distinct-without, files-more, files-with, has-without, none-passes}
+-- a file that is made or given has a name of its own
+pub use Rattle.dap_accessed.proofs.NewNames.{given-name, given-none, left-apart, left-distinct, left-files, made-apart, name-new, no-such}
 -- one record more leaves a file a file, and one item more files that are files and whose names differ
 pub use Rattle.dap_accessed.proofs.Given.{stored-file}
 pub use Rattle.dap_accessed.proofs.SoundGroups.{more-sound}

@@ -23,7 +23,8 @@ use Rattle.rec_file.specs.Acts.{StreamVal, act, get_record}
 use Rattle.dap_accessed.specs.declared.phase.OpenFile.{OpenFile}
 use Rattle.dap_accessed.specs.declared.verbs.Verb.{Verb}
 use Rattle.dap_accessed.specs.declared.verbs.Verb.TheVariants as verbs
-use Rattle.dap_accessed.specs.Standing.{Files, index_by, index_to_erase, the_file, ServerState, Fresh, Ready, Opened, Connected, Store, Stopped, Group, Standing, Scene, Effect, start, enters}
+use Rattle.dap_accessed.specs.Standing.{Files, the_file, ServerState, Fresh, Ready, Opened, Connected, Store, Stopped, Group, Standing, Scene, Effect, start, enters}
+use Rattle.dap_accessed.specs.Naming.{index_by, index_to_erase, number_made}
 use Rattle.dap_accessed.specs.Past.{asked_file, kept_attributes, is_dropping}
 use Rattle.dap_accessed.specs.Replies.{bare_status, too_large}
 use Rattle.dap_accessed.specs.Accesses.{rights_to_create, rights_to_erase, erase_file, rights_to_open, make_file, open_file, create_file, access_file, end_stream, complete}
@@ -55,13 +56,13 @@ module _ (scene : Scene) where
   opening own fac None = refl
   opening own fac (Some at) = either (lacks own.most (rights_to_open fac)) _ _ refl refl
 
-  making : (name : List ℕ) (fac : ℕ) (shape : Option Asked) → Late (make_file scene name fac shape)
-  making name fac None = refl
-  making name fac (Some shape) = refl
+  making : (new : List ℕ) (fac : ℕ) (replaced : Option ℕ) (shape : Option Asked) → Late (make_file scene new fac replaced shape)
+  making new fac replaced None = refl
+  making new fac replaced (Some shape) = refl
 
-  creating : (own : ServerSetup) (name : List ℕ) (fac : ℕ) (at : Option ℕ) (shape : Option Asked) → Late (create_file own scene name fac at shape)
-  creating own name fac (Some at) shape = refl
-  creating own name fac None shape = either (lacks own.most (rights_to_create fac)) _ _ refl (making name fac shape)
+  creating : (own : ServerSetup) (name : List ℕ) (fac : ℕ) (number : Option ℕ) (shape : Option Asked) → Late (create_file own scene name fac number shape)
+  creating own name fac None shape = refl
+  creating own name fac (Some n) shape = either (lacks own.most (rights_to_create fac)) _ _ refl (making _ fac _ shape)
 
   erasing : (own : ServerSetup) (at : Option ℕ) → Late (erase_file own scene at)
   erasing own None = refl
@@ -71,7 +72,7 @@ module _ (scene : Scene) where
   accessing own a shape =
       let found = index_by own.names a.name scene.files in
       either (a.func == codes.accfunc.opening) _ _ (opening own a.fac found)
-      (either (a.func == codes.accfunc.creating) _ _ (creating own a.name a.fac found shape)
+      (either (a.func == codes.accfunc.creating) _ _ (creating own a.name a.fac (number_made own.names a.name scene.files) shape)
       (either (own.full && a.func == codes.accfunc.erasing) _ _ (erasing own (index_to_erase own.names a.name scene.files)) refl))
 
   ended : (o : OpenFile) (state : ServerState) → Late (end_stream scene o state)

@@ -21,4 +21,6 @@ pub mod Given
 pub mod Answering
 pub mod ForCallers
 pub mod Apart
+pub mod NewNames
+pub mod Numbers
 pub mod Twins

@@ -23,7 +23,8 @@ use Rattle.dap_accessed.specs.declared.phase.Phase.{Phase}
 use Rattle.dap_accessed.specs.declared.phase.Phase.TheVariants as phases
 use Rattle.dap_accessed.specs.declared.verbs.Verb.{Verb}
 use Rattle.dap_accessed.specs.declared.verbs.Verb.TheVariants as verbs
-use Rattle.dap_accessed.specs.Standing.{Files, the_file, index_by, index_to_erase, ServerState, Group, Standing, Scene, Effect, Fresh, Ready, Opened, Connected, Store, Stopped, enters}
+use Rattle.dap_accessed.specs.Standing.{Files, the_file, ServerState, Group, Standing, Scene, Effect, Fresh, Ready, Opened, Connected, Store, Stopped, enters}
+use Rattle.dap_accessed.specs.Naming.{index_by, index_to_erase, number_made}
 use Rattle.dap_accessed.specs.Replies.{bare_status}
 use Rattle.dap_accessed.specs.Past.{is_filedata, is_dropping, ordinal_so_far}
 use Rattle.dap_accessed.specs.Accesses.{rights_to_create, rights_to_erase, erase_file, rights_to_open, make_file, open_file, create_file, access_file, end_stream, complete}
@@ -56,13 +57,13 @@ module _ (scene : Scene) where
   opening own fac None = λ e. cc
   opening own fac (Some at) = either (lacks own.most (rights_to_open fac)) _ _ (λ e. cc) (λ e. cc)
 
-  making : (name : List ℕ) (fac : ℕ) (shape : Option Asked) → Answers (make_file scene name fac shape)
-  making name fac None = λ e. cc
-  making name fac (Some shape) = λ e. cc
+  making : (new : List ℕ) (fac : ℕ) (replaced : Option ℕ) (shape : Option Asked) → Answers (make_file scene new fac replaced shape)
+  making new fac replaced None = λ e. cc
+  making new fac replaced (Some shape) = λ e. cc
 
-  creating : (own : ServerSetup) (name : List ℕ) (fac : ℕ) (at : Option ℕ) (shape : Option Asked) → Answers (create_file own scene name fac at shape)
-  creating own name fac (Some at) shape = λ e. cc
-  creating own name fac None shape = either (lacks own.most (rights_to_create fac)) _ _ (λ e. cc) (making name fac shape)
+  creating : (own : ServerSetup) (name : List ℕ) (fac : ℕ) (number : Option ℕ) (shape : Option Asked) → Answers (create_file own scene name fac number shape)
+  creating own name fac None shape = λ e. cc
+  creating own name fac (Some n) shape = either (lacks own.most (rights_to_create fac)) _ _ (λ e. cc) (making _ fac _ shape)
 
   erasing : (own : ServerSetup) (at : Option ℕ) → Answers (erase_file own scene at)
   erasing own None = λ e. cc
@@ -72,7 +73,7 @@ module _ (scene : Scene) where
   accessing own a shape =
       let found = index_by own.names a.name scene.files in
       either (a.func == codes.accfunc.opening) _ _ (opening own a.fac found)
-      (either (a.func == codes.accfunc.creating) _ _ (creating own a.name a.fac found shape)
+      (either (a.func == codes.accfunc.creating) _ _ (creating own a.name a.fac (number_made own.names a.name scene.files) shape)
       (either (own.full && a.func == codes.accfunc.erasing) _ _ (erasing own (index_to_erase own.names a.name scene.files)) (λ e. cc)))
 
   ending-stream : (o : OpenFile) (state : ServerState) → Answers (end_stream scene o state)

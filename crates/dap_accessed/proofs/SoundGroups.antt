@@ -1,9 +1,13 @@
 -- Every group leaves an end sound.
 use Rattle.std.proofs.Common.{◌≡◌, ℕ, ◌+◌, ◌<◌, ◌≤◌, Bool, true, false, List, [], ◌∷◌, length, Option, Some, None, Result, Ok, Err, refl, subst, inl, inr, arith, lit≤}
-use Rattle.dap_accessed.specs.Setup.{lacks}
+use Rattle.dap_accessed.specs.Setup.{asks_for_one, lacks}
+use Rattle.file_names.specs.Versions.{version_wanted}
+use Rattle.file_names.specs.declared.versions.Wanted.{Wanted}
+use Rattle.file_names.specs.declared.versions.Wanted.TheVariants.{Latest, Version, All, Nothing}
 use Rattle.dap_accessed.specs.declared.setup.Names.{Names}
+use Rattle.dap_accessed.specs.declared.setup.Names.TheVariants.{Exact, Folded, Versions}
 use Rattle.dap_accessed.specs.declared.setup.ServerSetup.{ServerSetup}
-use Rattle.std.specs.Prelude.{IfSome, bytes_eq, if◌then◌else◌}
+use Rattle.std.specs.Prelude.{IfSome, bytes_eq, if◌then◌else◌, nat_le, nat_lt}
 use Rattle.dap_msg.specs.declared.message.Message.{Message}
 use Rattle.dap_msg.specs.declared.message.AccessFields.{AccessFields}
 use Rattle.dap_msg.specs.declared.message.ControlFields.{ControlFields}
@@ -29,7 +33,8 @@ use Rattle.std.specs.Prelude.{◌==◌, take_while, drop}
 use Rattle.std.specs.List.{prefix_len, remove}
 use Rattle.dap_msg.specs.Codes as codes
 use Rattle.dap_accessed.specs.Replies.{bare_status}
-use Rattle.dap_accessed.specs.Standing.{Files, index_of, index_by, index_to_erase, with_file, the_file, ServerState, Fresh, Ready, Opened, Connected, Store, Stopped, Group, Standing, Scene, Effect, start, enters}
+use Rattle.dap_accessed.specs.Standing.{Files, index_of, with_file, the_file, ServerState, Fresh, Ready, Opened, Connected, Store, Stopped, Group, Standing, Scene, Effect, start, enters}
+use Rattle.dap_accessed.specs.Naming.{files_without, highest_version, index_by, index_of_version, index_to_erase, index_to_replace, lowest_version, name_with, number_made, version_count}
 use Rattle.dap_accessed.specs.Past.{asked_file, kept_attributes, is_dropping, ordinal_so_far}
 use Rattle.dap_accessed.specs.Accesses.{rights_to_create, rights_to_erase, erase_file, rights_to_open, make_file, open_file, create_file, access_file, end_stream, complete}
 use Rattle.dap_accessed.specs.Records.{at_number, verb_of, get_pick, got, record_got, effect_of_outcome, Change, Putting, Updating, effect_of_change, fits_limit}
@@ -42,7 +47,8 @@ use Rattle.dap_accessed.specs.Groups.{next_group, more_after}
 use Rattle.dap_accessed.proofs.Tables.{length-with}
 use Rattle.dap_accessed.proofs.Asking.{Good, good-file}
 use Rattle.dap_accessed.proofs.Kept.{act-keeps}
-use Rattle.dap_accessed.proofs.SoundTables.{file-there, files-with, files-more, all-without, distinct-without, none_exact}
+use Rattle.dap_accessed.proofs.SoundTables.{file-there, files-with, files-more, all-without, distinct-without}
+use Rattle.dap_accessed.proofs.NewNames.{left-apart, left-files, made-apart, no-such}
 
 -- ---- Shapes, limits and states.
 
@@ -71,7 +77,44 @@ within-of true n len f = f refl
 within-of false n len f = tt
 
 pub index-within : (names : Names) (name : List ℕ) (files : Files) → IfSome (index_by names name files) (λ n. n < length files)
-index-within names name files = within-of _ _ _ (λ e. grind (arith, nat_tests))
+index-within Exact name files = within-of _ _ _ (λ e. grind (arith, nat_tests))
+index-within Folded name files = within-of _ _ _ (λ e. grind (arith, nat_tests))
+index-within (Versions keep) name files = by (version_wanted name)
+  where
+    version-within : (number : ℕ) → IfSome (index_of_version name number files) (λ n. n < length files)
+    version-within number = within-of _ _ _ (λ e. grind (arith, nat_tests))
+
+    by : (w : Wanted) → IfSome (elim w as (λ x. Option ℕ) [ Latest ↦ index_of_version name (highest_version name files) files | Version n ↦ index_of_version name n files | All ↦ None | Nothing ↦ None ]) (λ n. n < length files)
+    by Latest = version-within (highest_version name files)
+    by (Version n) = version-within n
+    by All = tt
+    by Nothing = tt
+
+-- so is that of what it lets erase, and of what a new file replaces
+pub erased-within : (names : Names) (name : List ℕ) (files : Files) → IfSome (index_to_erase names name files) (λ n. n < length files)
+erased-within Exact name files = index-within Exact name files
+erased-within (Versions keep) name files = index-within (Versions keep) name files
+erased-within Folded name files = by (asks_for_one name)
+  where
+    by : (b : Bool) → IfSome (if b then index_by Folded name files else None) (λ n. n < length files)
+    by true = index-within Folded name files
+    by false = tt
+
+pub replaced-within : (names : Names) (name : List ℕ) (files : Files) → IfSome (index_to_replace names name files) (λ n. n < length files)
+replaced-within Exact name files = tt
+replaced-within Folded name files = tt
+replaced-within (Versions keep) name files = by (number_made (Versions keep) name files)
+  where
+    low : ℕ
+    low = lowest_version name files
+
+    full : (b : Bool) → IfSome (if b then index_of_version name low files else None) (λ n. n < length files)
+    full true = within-of _ _ _ (λ e. grind (arith, nat_tests))
+    full false = tt
+
+    by : (new : Option ℕ) → IfSome (elim new as (λ x. Option ℕ) [ None ↦ None | Some n ↦ if nat_le keep (version_count name files) && nat_lt low n then index_of_version name low files else None ]) (λ n. n < length files)
+    by None = tt
+    by (Some n) = full (nat_le keep (version_count name files) && nat_lt low n)
 
 -- the end that a turn leaves is sound, or the open file is in the table
 abbrev IsSoundTurn : Scene → Turn → Type 0
@@ -117,20 +160,23 @@ module _ (scene : Scene) (files : AreFiles scene.files) (least : 64 ≤ scene.li
   opening own fac None h = entering Ready tt
   opening own fac (Some at) h = either (lacks own.most (rights_to_open fac)) _ _ (entering Ready tt) (entering (Opened _) h)
 
-  making : (name : List ℕ) (fac : ℕ) (shape : Option Asked) → index_of name scene.files ≡ None → Good shape → Leaves (make_file scene name fac shape)
-  making name fac None e g = entering Ready tt
-  making name fac (Some asked) e good =
+  making : (new : List ℕ) (fac : ℕ) (replaced : Option ℕ) (shape : Option Asked) → index_of new (files_without replaced scene.files) ≡ None → Good shape → Leaves (make_file scene new fac replaced shape)
+  making new fac replaced None e g = entering Ready tt
+  making new fac replaced (Some asked) e good =
       record {
-        files = files-more scene.files name asked files good e;
-        opened = omega (arith, length-append scene.files ((name, made_file asked) ∷ []));
+        files = files-more (files_without replaced scene.files) new asked (left-files replaced scene.files files) good e;
+        opened = omega (arith, length-append (files_without replaced scene.files) ((new, made_file asked) ∷ []));
         least = least;
         most = most;
       }
 
-  creating : (own : ServerSetup) (name : List ℕ) (fac : ℕ) (at : Option ℕ) (shape : Option Asked) → index_by own.names name scene.files ≡ at → Good shape → Leaves (create_file own scene name fac at shape)
-  creating own name fac (Some at) shape e g = entering Ready tt
-  creating own name fac None shape e g =
-      either (lacks own.most (rights_to_create fac)) _ _ (entering Ready tt) (making name fac shape (none_exact own.names name scene.files e) g)
+  creating : (own : ServerSetup) (name : List ℕ) (fac : ℕ) (number : Option ℕ) (shape : Option Asked) → number_made own.names name scene.files ≡ number → Good shape → Leaves (create_file own scene name fac number shape)
+  creating own name fac None shape e g = entering Ready tt
+  creating own name fac (Some n) shape e g =
+      let new = name_with own.names name n in
+      let replaced = index_to_replace own.names name scene.files in
+      let apart = left-apart own.names new replaced scene.files (made-apart own.names name scene.files n e) in
+      either (lacks own.most (rights_to_create fac)) _ _ (entering Ready tt) (making new fac replaced shape (no-such own.names new (files_without replaced scene.files) apart) g)
 
   without : (at : ℕ) → IsSoundAt (record scene { files = remove scene.files at }) Ready
   without at = record { files = record { files = all-without scene.files at files.files; distinct = distinct-without bytes_eq scene.files at files.distinct }; opened = tt; least = least; most = most }
@@ -143,7 +189,7 @@ module _ (scene : Scene) (files : AreFiles scene.files) (least : 64 ≤ scene.li
   accessing own a shape g =
       let found = index_by own.names a.name scene.files in
       either (a.func == codes.accfunc.opening) _ _ (opening own a.fac found (index-within own.names a.name scene.files))
-      (either (a.func == codes.accfunc.creating) _ _ (creating own a.name a.fac found shape refl g)
+      (either (a.func == codes.accfunc.creating) _ _ (creating own a.name a.fac (number_made own.names a.name scene.files) shape refl g)
       (either (own.full && a.func == codes.accfunc.erasing) _ _ (erasing own (index_to_erase own.names a.name scene.files)) (entering Ready tt)))
 
   purging : (o : OpenFile) (new : Bool) → IsSoundAt (record scene { files = if new then remove scene.files o.at else scene.files }) Ready

@@ -1,17 +1,13 @@
 -- What a change of the table keeps.
 use Rattle.std.proofs.Common.{◌≡◌, ℕ, zero, suc, ◌+◌, ◌<◌, ◌≤◌, Bool, not, cond, List, [], ◌∷◌, ◌++◌, length, Some, None, refl, ap, inl, inr, arith}
-use Rattle.std.specs.Prelude.{bytes_eq, true, false}
+use Rattle.std.specs.Prelude.{bytes_eq, false}
 use Rattle.std.specs.List.{position, prefix_len, AllByRecursion, IsDistinct, remove}
 use Rattle.std.proofs.lemmas.Bool.{cases_Bool, cases_lt, lt-ltb, le-ltb}
-use Rattle.std.proofs.lemmas.Slice.Eq.{bytes_eq-Decides}
-use Rattle.file_names.specs.Folds.{fold}
 use Rattle.dap_accessed.specs.declared.asked.Asked.{Asked}
 use Rattle.dap_accessed.specs.Asked.{made_file, IsAsked}
 use Rattle.rec_file.specs.Files.{FileVal, IsFile}
 use Rattle.rec_file.proofs.ForCallers.{IsFile-new}
-use Rattle.dap_accessed.specs.declared.setup.Names.{Names}
-use Rattle.dap_accessed.specs.declared.setup.Names.TheVariants.{Exact, Folded}
-use Rattle.dap_accessed.specs.Standing.{Files, index_of, index_by, file_at, with_file}
+use Rattle.dap_accessed.specs.Standing.{Files, index_of, file_at, with_file}
 use Rattle.dap_accessed.specs.Sound.{AreFiles}
 
 abbrev pub AllFiles : Files → Type 0
@@ -63,7 +59,7 @@ module _ (eq : (one other : List ℕ) → Bool) where
   IsNone name files = AllByRecursion (λ f. eq name f.0 ≡ false) files
 
   -- no file has this name
-  abbrev HasNo : List ℕ → Files → Type 0
+  abbrev pub HasNo : List ℕ → Files → Type 0
   HasNo name files = AllByRecursion (λ f. eq f.0 name ≡ false) files
 
   none-with : (name : List ℕ) (files : Files) (at : ℕ) (file : FileVal) → IsNone name files → IsNone name (with_file at file files)
@@ -93,6 +89,12 @@ module _ (eq : (one other : List ℕ) → Bool) where
   none-more : (name : List ℕ) (files : Files) (f : List ℕ × FileVal) → IsNone name files → eq name f.0 ≡ false → IsNone name (files ++ f ∷ [])
   none-more name [] f h new = (new, tt)
   none-more name (e ∷ files) f h new = (h.0, none-more name files f h.1 new)
+
+  pub has-without : (name : List ℕ) (files : Files) (at : ℕ) → HasNo name files → HasNo name (remove files at)
+  has-without name [] zero h = tt
+  has-without name [] (suc at) h = tt
+  has-without name (f ∷ files) zero h = h.1
+  has-without name (f ∷ files) (suc at) h = (h.0, has-without name files at h.1)
 
   pub distinct-more : (files : Files) (f : List ℕ × FileVal) → AreDistinct files → HasNo f.0 files → AreDistinct (files ++ f ∷ [])
   unfolding IsDistinct
@@ -129,7 +131,7 @@ pub files-more : (files : Files) (name : List ℕ) (asked : Asked) → AreFiles 
 files-more files name asked h good none =
     record { files = all-more files _ h.files (IsFile-new asked.shape asked.look good.shape good.look); distinct = distinct-more bytes_eq files _ h.distinct (new-name name files none) }
 
--- ---- A name that no file has by its fold is that of no file.
+-- ---- Where none passes a test, none is found, and the other way.
 
 module _ {X : Type 0} (q : X → Bool) where
   none-from : (xs : List X) → length xs ≤ prefix_len (λ x. not (q x)) xs → AllByRecursion (λ x. q x ≡ false) xs
@@ -157,21 +159,3 @@ module _ {X : Type 0} (q : X → Bool) where
       let n = prefix_len (λ x. not (q x)) xs in
       let e = all-passed xs h in
       ap (λ b. cond b (Some n) None) (le-ltb n (length xs) (omega (arith, e)))
-
--- a name that isn't one by its fold isn't one byte by byte
-other-bytes : (one other : List ℕ) → bytes_eq (fold one) (fold other) ≡ false → bytes_eq one other ≡ false
-other-bytes one other apart =
-    elim (cases_Bool (bytes_eq one other)) [
-      | inl same ↦ let is : one ≡ other = (bytes_eq-Decides one other).0 same in
-          let alike : bytes_eq (fold one) (fold other) ≡ true = (bytes_eq-Decides (fold one) (fold other)).1 (ap fold is) in cc
-      | inr differs ↦ differs
-    ]
-
-all-other-bytes : (name : List ℕ) (files : Files) → AllByRecursion (λ f. bytes_eq (fold f.0) (fold name) ≡ false) files → HasNone name files
-all-other-bytes name [] h = tt
-all-other-bytes name (f ∷ files) h = (other-bytes f.0 name h.0, all-other-bytes name files h.1)
-
-pub none_exact : (names : Names) (name : List ℕ) (files : Files) → index_by names name files ≡ None → index_of name files ≡ None
-none_exact Exact name files e = e
-none_exact Folded name files e =
-    none-there (λ (f : List ℕ × FileVal). bytes_eq f.0 name) files (all-other-bytes name files (none-passes (λ (f : List ℕ × FileVal). bytes_eq (fold f.0) (fold name)) files e))

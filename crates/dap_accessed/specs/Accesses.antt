@@ -11,7 +11,8 @@ use Rattle.dap_accessed.specs.Asked.{made_file}
 use Rattle.dap_accessed.specs.declared.phase.OpenFile.{OpenFile}
 use Rattle.dap_accessed.specs.declared.setup.ServerSetup.{ServerSetup}
 use Rattle.dap_accessed.specs.Setup.{lacks}
-use Rattle.dap_accessed.specs.Standing.{Files, index_by, index_to_erase, file_at, ServerState, Ready, Opened, Scene, Effect, enters}
+use Rattle.dap_accessed.specs.Standing.{Files, file_at, ServerState, Ready, Opened, Scene, Effect, enters}
+use Rattle.dap_accessed.specs.Naming.{files_without, index_by, index_to_erase, index_to_replace, name_with, number_made}
 use Rattle.dap_accessed.specs.Replies.{bare_status, reason_of, refused_access, opened_with, erased_with, complete_response}
 
 -- the operations that FAC allows
@@ -56,18 +57,22 @@ open_file own scene fac (Some at) =
     effect_if_permitted own (rights_to_open fac) scene (enters scene (Opened (record { at = at; is_new = false; rights = rights_of (fac_or fac codes.fac_bits.get) }))
     (opened_with (file_at at scene.files).shape (file_at at scene.files).look))
 
--- Makes a file of this name, as it was asked for, if the attributes were good. It comes after all others.
-abbrev pub make_file : Scene → (name : List ℕ) → (fac : ℕ) → Option Asked → Effect
-make_file scene name fac None = refuse_access scene (refused_access codes.reasons.bad_attributes)
-make_file scene name fac (Some asked) =
-    enters (record scene { files = scene.files ++ (name, made_file asked) ∷ [] })
-    (Opened (record { at = length scene.files; is_new = true; rights = rights_of (fac_or fac codes.fac_bits.put) }))
+-- Makes a file of this name, as it was asked for, if the attributes were good. It comes after all others, of which one
+-- that it replaces is removed.
+abbrev pub make_file : Scene → (new : List ℕ) → (fac : ℕ) → (replaced : Option ℕ) → Option Asked → Effect
+make_file scene new fac replaced None = refuse_access scene (refused_access codes.reasons.bad_attributes)
+make_file scene new fac replaced (Some asked) =
+    let files = files_without replaced scene.files in
+    enters (record scene { files = files ++ (new, made_file asked) ∷ [] })
+    (Opened (record { at = length files; is_new = true; rights = rights_of (fac_or fac codes.fac_bits.put) }))
     (opened_with asked.shape asked.look)
 
--- Makes a file of this name, as it was asked for, unless one of that name is at an index.
-abbrev pub create_file : ServerSetup → Scene → (name : List ℕ) → (fac : ℕ) → Option ℕ → Option Asked → Effect
-create_file own scene name fac (Some at) asked = refuse_access scene (refused_access codes.reasons.file_exists)
-create_file own scene name fac None asked = effect_if_permitted own (rights_to_create fac) scene (make_file scene name fac asked)
+-- Makes a file of this name, as it was asked for, where there is a number for it.
+abbrev pub create_file : ServerSetup → Scene → (name : List ℕ) → (fac : ℕ) → (number : Option ℕ) → Option Asked → Effect
+create_file own scene name fac None asked = refuse_access scene (refused_access codes.reasons.file_exists)
+create_file own scene name fac (Some number) asked =
+    effect_if_permitted own (rights_to_create fac) scene
+    (make_file scene (name_with own.names name number) fac (index_to_replace own.names name scene.files) asked)
 
 -- Removes the file at this index of the table, if there is one: those after it move up. It is acknowledged, and the
 -- access is complete.
@@ -79,9 +84,8 @@ erase_file own scene (Some at) =
 -- an Access, by ACCFUNC: open and create are supported, and erase by a full server
 abbrev pub access_file : ServerSetup → Scene → AccessFields → Option Asked → Effect
 access_file own scene access asked =
-    let found = index_by own.names access.name scene.files in
-    if access.func == codes.accfunc.opening then open_file own scene access.fac found
-    else if access.func == codes.accfunc.creating then create_file own scene access.name access.fac found asked
+    if access.func == codes.accfunc.opening then open_file own scene access.fac (index_by own.names access.name scene.files)
+    else if access.func == codes.accfunc.creating then create_file own scene access.name access.fac (number_made own.names access.name scene.files) asked
     else if own.full && access.func == codes.accfunc.erasing then erase_file own scene (index_to_erase own.names access.name scene.files)
     else refuse_access scene (bare_status (codes.unsupported_code codes.types.access))
 

@@ -1,5 +1,6 @@
 -- Files and records that a server is given before the peer's Configuration.
-use Rattle.std.specs.Prelude.{ℕ, ◌≡◌, ◌≢◌, ◌+◌, ◌-◌, ◌<◌, Bool, not, ◌&&◌, ◌||◌, nat_lt, List, [], ◌∷◌, ◌++◌, length, Some, None}
+use Rattle.std.specs.Prelude.{ℕ, ◌≡◌, ◌≢◌, ◌+◌, ◌-◌, ◌<◌, Bool, not, ◌&&◌, ◌||◌, nat_lt, List, [], ◌∷◌, ◌++◌, length, IsSome, Some, None}
+use Rattle.std.specs.Option.{option_map_or}
 use Rattle.rec_file.specs.declared.refusals.Refusal.{Refusal}
 use Rattle.rec_file.specs.declared.refusals.Refusal.TheVariants.{BadLength, NumberOutOfRange, RecordExists}
 use Rattle.rec_file.specs.Shapes.{is_seq, allows_length}
@@ -10,7 +11,9 @@ use Rattle.dap_accessed.specs.Asked.{made_file}
 use Rattle.dap_accessed.specs.declared.fault.AddFault.{AddFault}
 use Rattle.dap_accessed.specs.declared.fault.AddFault.TheVariants as fault
 use Rattle.dap_msg.specs.declared.items.Item.{Item}
-use Rattle.dap_accessed.specs.Standing.{Files, index_by, file_at, with_file, Fresh}
+use Rattle.dap_accessed.specs.declared.setup.Names.{Names}
+use Rattle.dap_accessed.specs.Standing.{Files, file_at, with_file, Fresh}
+use Rattle.dap_accessed.specs.Naming.{name_with, number_given}
 use Rattle.dap_accessed.specs.Groups.{stands_after}
 use Rattle.dap_accessed.specs.Present.{Present, StandsAfter}
 
@@ -24,18 +27,26 @@ pub record IsLate (p : Present) : Type 0 where
 
 -- ---- A file.
 
+-- the name of a file that a server is given: with versions its fold and number
+abbrev pub name_given : Names → List ℕ → Files → List ℕ
+name_given names name files = option_map_or (name_with names name) (number_given names name files) name
+
 -- a file without records, after the others
-abbrev pub with_new_file : List ℕ → Asked → Files → Files
-with_new_file name asked files = files ++ (name, made_file asked) ∷ []
+abbrev pub with_new_file : Names → List ℕ → Asked → Files → Files
+with_new_file names name asked files = files ++ (name_given names name files, made_file asked) ∷ []
+
+-- a server may be given a file of this name
+abbrev pub MayGive : Names → List ℕ → Files → Type 0
+MayGive names name files = IsSome (number_given names name files)
 
 -- no Configuration was served, and no file has this name, as the server compares names
 abbrev pub MayAdd : Present → List ℕ → Type 0
-MayAdd p name = IsFresh p × (index_by p.setup.names name p.files ≡ None)
+MayAdd p name = IsFresh p × MayGive p.setup.names name p.files
 
 -- why a file isn't added, the first reason in this order
 abbrev pub AddRefused : Present → List ℕ → AddFault → Type 0
 AddRefused p name fault.Busy = IsLate p
-AddRefused p name fault.FileExists = IsFresh p × (index_by p.setup.names name p.files ≡ None → ⊥)
+AddRefused p name fault.FileExists = IsFresh p × (number_given p.setup.names name p.files ≡ None)
 AddRefused p name fault.NoMemory = MayAdd p name
 AddRefused p name _ = ⊥
 

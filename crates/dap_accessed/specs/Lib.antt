@@ -1,6 +1,7 @@
 pub mod Asked
 pub mod Setup
 pub mod Standing
+pub mod Naming
 pub mod Replies
 pub mod Past
 pub mod Accesses

@@ -16,9 +16,10 @@ use Rattle.dap_accessed.specs.declared.phase.Phase.{Phase}
 use Rattle.dap_accessed.specs.declared.phase.Phase.TheVariants as phases
 use Rattle.dap_accessed.specs.Asked.{plainly}
 use Rattle.dap_accessed.specs.Setup.{lacks, plain_setup}
-use Rattle.dap_accessed.specs.Standing.{Files, index_by, index_to_erase, plain_shape}
+use Rattle.dap_accessed.specs.Standing.{Files, plain_shape}
+use Rattle.dap_accessed.specs.Naming.{index_by, index_to_erase, index_to_replace}
 use Rattle.dap_accessed.specs.Past.{asked_file, is_filedata, is_dropping}
-use Rattle.dap_accessed.specs.Accesses.{rights_to_erase, rights_to_open}
+use Rattle.dap_accessed.specs.Accesses.{rights_to_create, rights_to_erase, rights_to_open}
 use Rattle.dap_accessed.specs.Groups.{GroupedItems, after_item, answers_of}
 use Rattle.dap_accessed.specs.Present.{Present, present_of}
 use Rattle.dap_accessed.specs.Served.{AllAtMost, AreAnswers}
@@ -102,22 +103,27 @@ there_at fac at = record { at = at; is_new = false; rights = rights_to_open fac 
 abbrev pub there_if : (own : ServerSetup) → (fac : ℕ) → Option ℕ → Option OpenFile
 there_if own fac found = if lacks own.most (rights_to_open fac) then None else option_map (there_at fac) found
 
--- a file that is there, as an Access to erase it asks for it: alone, since it would remove it
+-- a file that is there, as an Access that would remove it asks for it: alone
 abbrev pub erased_at : (at : ℕ) → OpenFile
 erased_at at = record { at = at; is_new = false; rights = rights_to_erase }
 
--- what such an Access asks for: none where it asks for a right that the server doesn't give
+-- what an Access to erase asks for: none where it asks for a right that the server doesn't give
 abbrev pub erased_if : (own : ServerSetup) → Option ℕ → Option OpenFile
 erased_if own found = if lacks own.most rights_to_erase then None else option_map erased_at found
 
--- what an Access would open or erase, where it names a file that is there, and asks for no right too many
+-- what an Access to create asks for: the file that the new one replaces, unless it asks for a right too many
+abbrev pub replaced_if : (own : ServerSetup) → (fac : ℕ) → Option ℕ → Option OpenFile
+replaced_if own fac found = if lacks own.most (rights_to_create fac) then None else option_map erased_at found
+
+-- what an Access would open, replace or erase, where that is there, and it asks for no right too many
 abbrev pub would_open : (own : ServerSetup) → Files → AccessFields → Option OpenFile
 would_open own files access =
     if access.func == codes.accfunc.opening then there_if own access.fac (index_by own.names access.name files)
+    else if access.func == codes.accfunc.creating then replaced_if own access.fac (index_to_replace own.names access.name files)
     else if own.full && access.func == codes.accfunc.erasing then erased_if own (index_to_erase own.names access.name files)
     else None
 
--- what an item asks to open, or to erase: only an Access in Ready does
+-- what an item asks to open, to replace or to erase: only an Access in Ready does
 abbrev pub asked_in : (own : ServerSetup) → Files → Phase → Item → Option OpenFile
 asked_in own files phases.Ready (Whole (Access access)) = would_open own files access
 asked_in own files phase item = None

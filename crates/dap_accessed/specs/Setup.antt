@@ -2,20 +2,21 @@
 -- and whether it is full: then it does more than a plain one.
 use Rattle.std.specs.Prelude.{ℕ, ◌≤◌, ◌==◌, Bool, true, false, not, ◌&&◌, ◌||◌, List, bytes_eq}
 use Rattle.file_names.specs.Folds.{fold}
-use Rattle.file_names.specs.Versions.{version_wanted}
+use Rattle.file_names.specs.Versions.{version_number, version_wanted}
 use Rattle.file_names.specs.declared.versions.Wanted.TheVariants.{Latest, Version, All, Nothing}
 use Rattle.dap_msg.specs.BothEnds.{min_buffer, plain_identity}
 use Rattle.dap_msg.specs.Fitting.{FieldsFit}
 use Rattle.dap_msg.specs.declared.message.Message.TheVariants.{Config}
 use Rattle.rec_file.specs.declared.picks.Rights.{Rights}
 use Rattle.dap_accessed.specs.declared.setup.Names.{Names}
-use Rattle.dap_accessed.specs.declared.setup.Names.TheVariants.{Exact, Folded}
+use Rattle.dap_accessed.specs.declared.setup.Names.TheVariants.{Exact, Folded, Versions}
 use Rattle.dap_accessed.specs.declared.setup.ServerSetup.{ServerSetup}
 
--- two names are one: byte by byte, or by their folds
+-- two names are one: byte by byte, by their folds, or by their folds and numbers
 abbrev pub same_name : Names → (one other : List ℕ) → Bool
 same_name Exact one other = bytes_eq one other
 same_name Folded one other = bytes_eq (fold one) (fold other)
+same_name (Versions keep) one other = bytes_eq (fold one) (fold other) && version_number one == version_number other
 
 -- a name asks for the latest version, or for number 1
 abbrev pub asks_for_one : List ℕ → Bool

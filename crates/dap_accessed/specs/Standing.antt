@@ -1,5 +1,5 @@
 -- The state of a server between two groups of messages (DAP 5.6.0, message sequences).
-use Rattle.std.specs.Prelude.{ℕ, if◌then◌else◌, List, [], get_or, set, Option, None, bytes_eq}
+use Rattle.std.specs.Prelude.{ℕ, List, [], get_or, set, Option, bytes_eq}
 use Rattle.std.specs.List.{position}
 use Rattle.dap_msg.specs.BothEnds.{min_buffer}
 use Rattle.dap_msg.specs.declared.message.Message.{Message}
@@ -10,9 +10,6 @@ use Rattle.rec_file.specs.declared.shapes.Format.TheVariants.{Variable}
 use Rattle.rec_file.specs.Files.{FileVal, empty_file}
 use Rattle.rec_file.specs.Looks.{plain_look}
 use Rattle.rec_file.specs.Acts.{StreamVal}
-use Rattle.dap_accessed.specs.Setup.{asks_for_one, same_name}
-use Rattle.dap_accessed.specs.declared.setup.Names.{Names}
-use Rattle.dap_accessed.specs.declared.setup.Names.TheVariants.{Exact, Folded}
 use Rattle.dap_accessed.specs.declared.phase.OpenFile.{OpenFile}
 
 -- the files, each with its name, in the order in which they were made
@@ -22,16 +19,6 @@ Files = List (List ℕ × FileVal)
 -- the index of the first file with this name
 abbrev pub index_of : List ℕ → Files → Option ℕ
 index_of name files = position (λ (f : List ℕ × FileVal). bytes_eq f.0 name) files
-
--- the index of the first file whose name is one with this, so compared
-abbrev pub index_by : Names → List ℕ → Files → Option ℕ
-index_by names name files = position (λ (f : List ℕ × FileVal). same_name names f.0 name) files
-
--- The index of the first file that this name lets erase. By folds each file has one version, number 1: a name that asks
--- for another, for all or for none there can be finds nothing. Byte by byte a version is a part of the name.
-abbrev pub index_to_erase : Names → List ℕ → Files → Option ℕ
-index_to_erase Exact name files = index_by Exact name files
-index_to_erase Folded name files = if asks_for_one name then index_by Folded name files else None
 
 -- the shape of a file that isn't there: sequential, variable, without limits
 abbrev pub plain_shape : Shape

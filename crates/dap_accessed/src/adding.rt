@@ -40,12 +40,14 @@ impl Accessed {
     /// Adds a file without records after the others, before the peer's Config was served. Its shape is one that
     /// [`Shape::check`] gives.
     ///
-    /// Refusals in order: Busy; FileExists, as the end compares names; NoMemory. Each leaves the end unchanged.
+    /// Refusals in order: Busy; FileExists, where there is one of its name, as the end compares names; NoMemory. Each
+    /// leaves the end unchanged.
     pub fn add(&mut self, name: &[u8], shape: Shape) -> Result<(), AddFault>
         requires { IsTrue (is_shape shape) }
         ensures may { OnOk result (MayAdd self.old name.now) }
         ensures files { OnOk result
-            (self.new.files ≡ with_new_file name.now (plainly shape) self.old.files) }
+            (self.new.files ≡ with_new_file self.old.setup.names name.now (plainly shape)
+            self.old.files) }
         ensures stands { OnOk result ((first : Files) (items : List TheItem)
             → StandsAfter first items self.old → StandsAfter self.new.files items self.new) }
         ensures own { self.new.own ≡ self.old.own }
@@ -56,11 +58,13 @@ impl Accessed {
         if !self.is_fresh() {
             return Err(AddFault::Busy);
         }
-        if self.files.find_by(self.session.setup.names, name).is_some() {
+        let Some(number) = self.files.number_given(self.session.setup.names, name) else {
             return Err(AddFault::FileExists);
-        }
+        };
+        let asked = Asked::plainly(shape);
+        let names = self.session.setup.names;
         self.files
-            .make(self.session.alloc, name, Asked::plainly(shape))?;
+            .make(self.session.alloc, names, name, number, asked)?;
         Ok(())
     }
 

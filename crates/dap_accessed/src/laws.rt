@@ -1,7 +1,7 @@
 //! Laws over the definitions alone, for the crates above. Each function does nothing: its contract is
 //! the law.
 
-ghost use Rattle.std.specs.Prelude.{◌≡◌, ◌<◌, ◌^◌, ℕ, List, [], ◌∷◌, ◌++◌, length, Some, None, true};
+ghost use Rattle.std.specs.Prelude.{◌≡◌, ◌<◌, ◌^◌, ℕ, List, [], ◌∷◌, ◌++◌, length, Some, true};
 ghost use Rattle.dap_msg.specs.declared.items.Item.{Item as TheItem};
 ghost use Rattle.dap_msg.specs.declared.message.Message.TheVariants.{Config};
 ghost use Rattle.dap_msg.specs.Fitting.{FieldsFit};
@@ -12,9 +12,10 @@ ghost use Rattle.std.specs.List.{AllByRecursion};
 ghost use Rattle.dap_accessed.specs.Sound.{AreFiles, IsSound};
 ghost use Rattle.dap_accessed.specs.Apart.{NamesAreApart};
 ghost use Rattle.dap_accessed.specs.Twins.{AreTwins, SameMessages};
+ghost use Rattle.dap_accessed.specs.declared.setup.Names.{Names};
 ghost use Rattle.dap_accessed.specs.declared.setup.ServerSetup.{ServerSetup};
-ghost use Rattle.dap_accessed.specs.Standing.{Files, index_of, file_at};
-ghost use Rattle.dap_accessed.specs.Adding.{MayStore, newest, with_new_file, with_record};
+ghost use Rattle.dap_accessed.specs.Standing.{Files, file_at};
+ghost use Rattle.dap_accessed.specs.Adding.{MayGive, MayStore, newest, with_new_file, with_record};
 ghost use Rattle.dap_accessed.specs.declared.asked.Asked.{Asked};
 ghost use Rattle.dap_accessed.specs.Asked.{IsAsked, asked_fully};
 ghost use Rattle.dap_accessed.specs.Replies.{file_attributes};
@@ -56,15 +57,15 @@ pub fn answers_fit()
 
 /// A file and a record that an end is given leave files that obey their shapes and have different names.
 pub fn given_files_are_sound()
-    ensures file { (files : Files) (name : List ℕ) (asked : Asked) → AreFiles files
-        → IsAsked asked → index_of name files ≡ None
-        → AreFiles (with_new_file name asked files) }
+    ensures file { (names : Names) (files : Files) (name : List ℕ) (asked : Asked) → AreFiles files
+        → IsAsked asked → MayGive names name files
+        → AreFiles (with_new_file names name asked files) }
     ensures record { (files : Files) (n : ℕ) (body : List ℕ) → AreFiles files → 0 < length files
         → MayStore (file_at (newest files) files) n body → AreFiles (with_record n body files) }
 {}
 
 /// Where no two of the files at first had one name, as the server compares names, no two ever have. So with folded
-/// names no two files of the table fold alike.
+/// names no two files of the table fold alike, and with versions no two have one fold and one number.
 pub fn names_stay_apart()
     ensures { (own : ServerSetup) (first : Files) (items : List TheItem)
         → NamesAreApart own.names first → NamesAreApart own.names (After own first items) }

@@ -9,6 +9,7 @@ mod answers;
 mod asked;
 mod fault;
 mod laws;
+mod naming;
 mod opened;
 mod phase;
 mod refusing;

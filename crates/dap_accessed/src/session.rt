@@ -11,7 +11,7 @@ ghost use Rattle.dap_accessed.specs.Accesses.{fac_or, rights_of, rights_to_creat
 ghost use Rattle.dap_accessed.specs.Groups.{GroupedItems};
 ghost use Rattle.dap_accessed.specs.Replies.{bare_status, coded, refused_access};
 ghost use Rattle.dap_accessed.specs.Served.{AreAnswers};
-ghost use Rattle.dap_accessed.specs.Sessions.{IsIn, IsOpenIn, IsSilentIn, ServesItem, asked_in, with_files, new_session, open_at, phase_moved_up, refused_session, session_with, erased_if, there_at, there_if, would_open};
+ghost use Rattle.dap_accessed.specs.Sessions.{IsIn, IsOpenIn, IsSilentIn, ServesItem, asked_in, with_files, new_session, open_at, phase_moved_up, refused_session, session_with, erased_at, erased_if, replaced_if, there_at, there_if, would_open};
 ghost use Rattle.dap_accessed.specs.Setup.{IsServerSetup};
 ghost use Rattle.dap_accessed.specs.Inner.Sessions.{Enters};
 ghost use Rattle.dap_accessed.specs.Inner.Moves.{Makes, Moves, creates, erases, is_silent, move, opens, opens_nothing};
@@ -122,6 +122,17 @@ fn there_if(setup: &ServerSetup, fac: u32, found: Option<usize>) -> Option<OpenF
     Some(there_at(found?, fac))
 }
 
+/// Returns a file that is there, as an Access that would remove it asks for it.
+fn erased_at(at: usize) -> OpenFile
+    ensures { result ≡ erased_at at }
+{
+    OpenFile {
+        at,
+        is_new: false,
+        rights: RIGHTS_TO_ERASE,
+    }
+}
+
 /// Returns the file that an Access would erase, as one that has it alone, where there is one at this index, and it asks
 /// for no right too many.
 fn erased_if(setup: &ServerSetup, found: Option<usize>) -> Option<OpenFile>
@@ -130,20 +141,30 @@ fn erased_if(setup: &ServerSetup, found: Option<usize>) -> Option<OpenFile>
     if setup.lacks(RIGHTS_TO_ERASE) {
         return None;
     }
-    Some(OpenFile {
-        at: found?,
-        is_new: false,
-        rights: RIGHTS_TO_ERASE,
-    })
+    Some(erased_at(found?))
 }
 
-/// Returns the file that an Access would open or erase, where it names one that is there, and asks for no right too many.
+/// Returns the file that an Access to create would replace, as one that has it alone, where there is one at this index,
+/// and it asks for no right too many.
+fn replaced_if(setup: &ServerSetup, fac: u32, found: Option<usize>) -> Option<OpenFile>
+    ensures { result ≡ replaced_if setup.now fac found }
+{
+    if setup.lacks(rights_to_create(fac)) {
+        return None;
+    }
+    Some(erased_at(found?))
+}
+
+/// Returns the file that an Access would open, replace or erase, where that is there, and it asks for no right too many.
 fn would_open(setup: &ServerSetup, files: &FileTable, access: &AccessFields<'_>) -> Option<OpenFile>
     ensures { result ≡ would_open setup.now files.now access.now }
 {
     let name = access.name.0;
     match access.func {
         ACCFUNC_OPEN => there_if(setup, access.fac, files.find_by(setup.names, name)),
+        ACCFUNC_CREATE => {
+            replaced_if(setup, access.fac, files.find_to_replace(setup.names, name))
+        }
         ACCFUNC_ERASE if setup.full => erased_if(setup, files.find_to_erase(setup.names, name)),
         _ => None,
     }
@@ -217,8 +238,8 @@ impl Session {
         }
     }
 
-    /// Returns the file that an item would open, or erase: an Access, while none is open, that names a file which is
-    /// there, and asks for no right too many.
+    /// Returns the file that an item would open, replace or erase: by an Access, while none is open, where it is there,
+    /// and the Access asks for no right too many.
     pub fn asked(&self, files: &FileTable, item: &Item<'_>) -> Option<OpenFile>
         ensures { result ≡ asked_in self.now.setup files.now self.now.phase item.now }
     {
@@ -389,8 +410,8 @@ impl Session {
         Ok(answers)
     }
 
-    /// Answers an Access that creates a file. It is refused where there is one, then where it asks for a right too
-    /// many, and then where its attributes are bad.
+    /// Answers an Access that creates a file, and removes the one that it replaces. It is refused where there is one of
+    /// its name, or no number is left, then where it asks for a right too many, and then where its attributes are bad.
     fn create(
         &mut self,
         files: &mut FileTable,
@@ -402,9 +423,9 @@ impl Session {
         ensures there { OnOk result (IsOpenIn files.new self.new.phase) }
         ensures err { OnErr result (with_files files.new self.new ≡ with_files files.old self.old) }
     {
-        if files.find_by(self.setup.names, name).is_some() {
+        let Some(number) = files.number_made(self.setup.names, name) else {
             return self.refuse_access(files, refused_access(REASON_FILE_EXISTS));
-        }
+        };
         if self.setup.lacks(rights_to_create(fac)) {
             return self.refuse_access(files, refused_access(REASON_NOT_PERMITTED));
         }
@@ -412,8 +433,7 @@ impl Session {
             return self.refuse_access(files, refused_access(REASON_BAD_ATTRIBUTES));
         };
         let answers = opening(self.alloc, self.limit, asked.shape, asked.look)?;
-        let at = files.count();
-        files.make(self.alloc, name, asked)?;
+        let at = files.make_over(self.alloc, self.setup.names, name, number, asked)?;
         self.kept = Some(Asked::plain());
         self.phase = Phase::Opened(OpenFile {
             at,

@@ -2,31 +2,22 @@
 
 ghost use Rattle.std.specs.Prelude.{◌≡◌};
 ghost use Rattle.dap_accessed.specs.Accesses.{rights_of};
-ghost use Rattle.dap_accessed.specs.Setup.{all_rights, asks_for_one, lacks, plain_setup, same_name};
+ghost use Rattle.dap_accessed.specs.Setup.{all_rights, asks_for_one, lacks, plain_setup};
 
 use dap_msg::{Configuration, FileAccess};
-use file_names::{Wanted, is_alike, version_wanted};
+use file_names::{Wanted, version_wanted};
 use rec_file::Rights;
 
 /// How the names of files are compared.
-#[derive(Clone, Copy)]
+#[derive(Clone, Copy, PartialEq, Eq)]
 pub enum Names {
     /// Byte by byte.
     Exact,
     /// By their folds: a device, a directory, a version and small letters don't count.
     Folded,
-}
-
-impl Names {
-    /// Returns whether two names are one.
-    pub(crate) fn are_same(self, one: &[u8], other: &[u8]) -> bool
-        ensures { result ≡ same_name self one.now other.now }
-    {
-        match self {
-            Names::Exact => one == other,
-            Names::Folded => is_alike(one, other),
-        }
-    }
+    /// By folds and versions: a file has a fold and a number, and a new one gets the next, or the one that is asked for.
+    /// Of a fold that has this many files or more, a new one replaces the lowest that is below it.
+    Versions(u16),
 }
 
 /// Returns whether a name asks for the latest version of a file, or for number 1.

@@ -20,7 +20,8 @@ use Rattle.dap_accessed.specs.Effects.{Begun, Does, told}
 use Rattle.dap_accessed.specs.Groups.{GroupedItems, answers_in}
 use Rattle.dap_accessed.specs.Past.{asked_file, is_dropping, kept_attributes, ordinal_so_far}
 use Rattle.dap_accessed.specs.Replies.{bare_status}
-use Rattle.dap_accessed.specs.Standing.{Effect, Files, Group, Scene, ServerState, Standing, enters, index_by, index_to_erase}
+use Rattle.dap_accessed.specs.Standing.{Effect, Files, Group, Scene, ServerState, Standing, enters}
+use Rattle.dap_accessed.specs.Naming.{index_by, index_to_erase, number_made}
 use Rattle.dap_accessed.specs.Standing as at
 use Rattle.dap_accessed.specs.Transfers.{store_one}
 use Rattle.dap_accessed.proofs.ForCallers.{AllFiles, after_item, Good, good-file, index-within, next_group}
@@ -173,12 +174,12 @@ module _ (own_a : Configuration) (own_b : ServerSetup) (scene : Scene) (limit_a 
   abbrev Opens : Effect → Type 0
   Opens e = Comes own_a own_b scene limit_a h Ready hear_attributes e
 
-  by_func : (opening creating erasing : Bool) → erasing ≡ false → (name : List ℕ) (fac : ℕ) (found erased : Option ℕ) (shape : Option Asked) → Opens (open_file own_b scene fac found) → Opens (create_file own_b scene name fac found shape)
-      → Opens (if opening then open_file own_b scene fac found else if creating then create_file own_b scene name fac found shape else if erasing then erase_file own_b scene erased else refuse_access scene (bare_status (codes.unsupported_code codes.types.access)))
-  by_func true creating erasing e name fac found erased shape o c = o
-  by_func false true erasing e name fac found erased shape o c = c
-  by_func false false true e name fac found erased shape o c = cc
-  by_func false false false e name fac found erased shape o c = (_, refl, h)
+  by_func : (opening creating erasing : Bool) → erasing ≡ false → (name : List ℕ) (fac : ℕ) (found number erased : Option ℕ) (shape : Option Asked) → Opens (open_file own_b scene fac found) → Opens (create_file own_b scene name fac number shape)
+      → Opens (if opening then open_file own_b scene fac found else if creating then create_file own_b scene name fac number shape else if erasing then erase_file own_b scene erased else refuse_access scene (bare_status (codes.unsupported_code codes.types.access)))
+  by_func true creating erasing e name fac found number erased shape o c = o
+  by_func false true erasing e name fac found number erased shape o c = c
+  by_func false false true e name fac found number erased shape o c = cc
+  by_func false false false e name fac found number erased shape o c = (_, refl, h)
 
   never : (full erasing : Bool) → erasing ≡ false → (full && erasing) ≡ false
   never true erasing e = e
@@ -187,10 +188,11 @@ module _ (own_a : Configuration) (own_b : ServerSetup) (scene : Scene) (limit_a 
   accesses : (access : AccessFields) (shape : Option Asked) → (access.func == codes.accfunc.erasing) ≡ false → AllFiles scene.files → Good shape → Opens (access_file own_b scene access shape)
   accesses access shape opens_only all good =
       let found = index_by own_b.names access.name scene.files in
+      let number = number_made own_b.names access.name scene.files in
       by_func (access.func == codes.accfunc.opening) (access.func == codes.accfunc.creating) (own_b.full && access.func == codes.accfunc.erasing)
-      (never own_b.full (access.func == codes.accfunc.erasing) opens_only) access.name access.fac found (index_to_erase own_b.names access.name scene.files) shape
+      (never own_b.full (access.func == codes.accfunc.erasing) opens_only) access.name access.fac found number (index_to_erase own_b.names access.name scene.files) shape
       (opens own_a own_b scene limit_a h access.fac found (shape-there scene.files found all (index-within own_b.names access.name scene.files)))
-      (creates own_a own_b scene limit_a h access.name access.fac found shape good)
+      (creates own_a own_b scene limit_a h access.name access.fac number shape good)
 
 -- ---- One message more.
 

@@ -22,7 +22,8 @@ use Rattle.dap_accessed.specs.declared.phase.OpenFile.{OpenFile}
 use Rattle.std.specs.Prelude.{take_while, drop}
 use Rattle.std.specs.List.{prefix_len}
 use Rattle.dap_msg.specs.Codes as codes
-use Rattle.dap_accessed.specs.Standing.{Files, ServerState, Group, Standing, Scene, Effect, enters, the_file, index_by, file_at}
+use Rattle.dap_accessed.specs.Standing.{Files, ServerState, Group, Standing, Scene, Effect, enters, the_file, file_at}
+use Rattle.dap_accessed.specs.Naming.{index_by, number_made}
 use Rattle.dap_accessed.specs.Standing as at
 use Rattle.dap_accessed.specs.Replies.{reason_of, refused_access, bare_status, coded, record_status, refusal_status, too_large}
 use Rattle.dap_accessed.specs.Effects.{told}
@@ -348,13 +349,13 @@ module _ (own_a : Configuration) (own_b : ServerSetup) (scene : Scene) (limit_a 
   opens fac None g = (report.Refused 0x4032 0, refl, h)
   opens fac (Some n) g = comes_if (lacks own_b.most (rights_to_open fac)) _ (_, hear_shape (file_at n scene.files).shape (file_at n scene.files).look g, h)
 
-  makes : (name : List ℕ) (fac : ℕ) (shape : Option Asked) → Good shape → Comes Ready hear_attributes (make_file scene name fac shape)
-  makes name fac None g = (_, hear_refused_access own_b.full 11, h)
-  makes name fac (Some asked) g = (_, hear_shape asked.shape asked.look g.shape, h)
+  makes : (new : List ℕ) (fac : ℕ) (replaced : Option ℕ) (shape : Option Asked) → Good shape → Comes Ready hear_attributes (make_file scene new fac replaced shape)
+  makes new fac replaced None g = (_, hear_refused_access own_b.full 11, h)
+  makes new fac replaced (Some asked) g = (_, hear_shape asked.shape asked.look g.shape, h)
 
-  pub creates : (name : List ℕ) (fac : ℕ) (found : Option ℕ) (shape : Option Asked) → Good shape → Comes Ready hear_attributes (create_file own_b scene name fac found shape)
-  creates name fac (Some n) shape g = (_, hear_refused_access own_b.full 1, h)
-  creates name fac None shape g = comes_if (lacks own_b.most (rights_to_create fac)) _ (makes name fac shape g)
+  pub creates : (name : List ℕ) (fac : ℕ) (number : Option ℕ) (shape : Option Asked) → Good shape → Comes Ready hear_attributes (create_file own_b scene name fac number shape)
+  creates name fac None shape g = (_, hear_refused_access own_b.full 1, h)
+  creates name fac (Some n) shape g = comes_if (lacks own_b.most (rights_to_create fac)) _ (makes _ fac _ shape g)
 
 -- ---- The requests of a file that is open.
 
@@ -435,7 +436,7 @@ module _ (own_a : Configuration) (own_b : ServerSetup) (files : Files) (limit : 
       let scene : Scene = record { limit = limit; files = files } in
       let a : Attributes = record no_attributes { org = Some org; rfm = Some rfm; mrs = Some mrs; mrn = Some (four_bytes mrn) } in
       let kept : Attributes = kept_attributes (record { state = at.Ready; first = Whole (Attrib a); answers = [] } ∷ past) in
-      let r = creates own_a own_b scene limit_a h name fac (index_by own_b.names name files) (asked_file own_b.full kept) (good-file own_b.full kept) in
+      let r = creates own_a own_b scene limit_a h name fac (number_made own_b.names name files) (asked_file own_b.full kept) (good-file own_b.full kept) in
       record { answers = _; done = r.0; new = _; cut_is = refl; adds = adds-two past _; heard = r.1; agree = r.2 }
 
   abbrev configured : Scene → (bufsiz : ℕ) → Effect

@@ -8,11 +8,12 @@ ghost use Rattle.nsp_link.specs.Link.{IsSetup, IsSpelling};
 ghost use Rattle.nsp_link.specs.Sending.{WritesSent, ack_packet_of};
 ghost use Rattle.nsp_link.specs.declared.fault.LinkFault.TheVariants.{Failed, NoSuchSegment};
 ghost use Rattle.nsp_link.specs.declared.fault.LinkFault.TheVariants as fault;
-ghost use Rattle.dap_accessed.specs.Adding.{MayStore, with_new_file};
+ghost use Rattle.dap_accessed.specs.Adding.{MayGive, MayStore, with_new_file};
 ghost use Rattle.dap_accessed.specs.Setup.{IsServerSetup, plain_setup};
 ghost use Rattle.dap_shared.specs.Nodes.{Event, Gives, GivesRecord, exchange_at, node_after, with_record_at};
 ghost use Rattle.dap_shared.specs.Shared.{AtFile, NotAdded, NotRemoved, RecordNotAdded, SharedAfter, SharedDrops, SharedGiven, rights_on};
-ghost use Rattle.dap_accessed.specs.Standing.{Files, file_at, index_by};
+ghost use Rattle.dap_accessed.specs.Standing.{Files, file_at};
+ghost use Rattle.dap_accessed.specs.Naming.{index_by};
 ghost use Rattle.dap_end.specs.Ports.{PortValue};
 ghost use Rattle.std.specs.List.{list_any, position};
 ghost use Rattle.dap_end.specs.Inner.Come.{come_on};
@@ -337,12 +338,13 @@ impl ServingNode {
     pub fn add(&mut self, name: &[u8], asked: Asked) -> Result<(), AddFault>
         requires { IsAsked asked }
         ensures idle { OnOk result (NoneHasCome self.old.ports) }
-        ensures may { OnOk result (index_by self.old.noted.shared.setup.names name.now
-            self.old.noted.shared.files ≡ None) }
+        ensures may { OnOk result
+            (MayGive self.old.noted.shared.setup.names name.now self.old.noted.shared.files) }
         ensures given { OnOk result
             (SharedGiven (Gives name.now asked) self.old.noted.shared self.new.noted.shared) }
         ensures files { OnOk result (self.new.noted.shared.files
-            ≡ with_new_file name.now asked self.old.noted.shared.files) }
+            ≡ with_new_file self.old.noted.shared.setup.names name.now asked
+            self.old.noted.shared.files) }
         ensures ports { self.new.ports ≡ self.old.ports }
         ensures notes { self.new.noted ≡ record self.old.noted { shared = self.new.noted.shared } }
         ensures refused { IfErr result

@@ -133,7 +133,8 @@ impl End<Accessed> {
         ensures idle { OnOk result (HasCome self.old.port → ⊥) }
         ensures may { OnOk result (MayAdd self.old.present name.now) }
         ensures files { OnOk result (self.new.present.files
-            ≡ with_new_file name.now (plainly shape) self.old.present.files) }
+            ≡ with_new_file self.old.present.setup.names name.now (plainly shape)
+            self.old.present.files) }
         ensures given { OnOk result ((history : ServerHistory) → IsAfter history self.old
             → IsAfter (record history { first = self.new.present.files }) self.new) }
         ensures port { self.new.port ≡ self.old.port }

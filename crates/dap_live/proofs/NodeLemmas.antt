@@ -2,7 +2,8 @@
 use Rattle.std.proofs.Common.{◌≡◌, ◌⊎◌, inl, inr, ℕ, true, false, List, Some, refl, ap, sym, subst, ◌∙◌}
 use Rattle.std.specs.Prelude.{IfErr, MatchOption, OnOk, Option, None, Ok, Err, Result}
 use Rattle.dap_accessed.specs.Adding.{MayStore}
-use Rattle.dap_accessed.specs.Standing.{file_at, index_by}
+use Rattle.dap_accessed.specs.Standing.{file_at}
+use Rattle.dap_accessed.specs.Naming.{index_by}
 use Rattle.dap_shared.specs.Nodes.{GivesRecord, with_record_at}
 use Rattle.dap_shared.specs.Shared.{AtFile, SharedGiven}
 use Rattle.nsp_link.specs.Link.{IsSetup, LinkValue, SetupFault}

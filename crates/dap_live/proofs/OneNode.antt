@@ -1,6 +1,6 @@
 -- What a node does by a line, and says, follows from the node and the line, out of memory aside.
 use Rattle.std.proofs.Common.{◌≡◌, ◌≢◌, ℕ, zero, suc, ◌==◌, refl, sym, ◌∙◌, subst, ap, Bool, true, false, true≢false, List, [], ◌∷◌, ◌++◌, length, inl, inr}
-use Rattle.std.specs.Prelude.{◌⊎◌, MatchBool, MatchOption, MatchResult, Option, Some, None, Result, Ok, Err, codes, if◌then◌else◌, option_map, replicate, set, slice_get}
+use Rattle.std.specs.Prelude.{◌⊎◌, IsSome, MatchBool, MatchOption, MatchResult, Option, Some, None, Result, Ok, Err, codes, if◌then◌else◌, option_map, replicate, set, slice_get}
 use Rattle.std.specs.List.{position}
 use Rattle.hex.specs.Hex.{IsBytes as AreBytes}
 use Rattle.nsp_seg.specs.declared.packet.Packet.{Packet}
@@ -19,8 +19,9 @@ use Rattle.dap_accessed.specs.declared.fault.AddFault.TheVariants as add
 use Rattle.dap_accessed.specs.declared.setup.Names.{Names}
 use Rattle.dap_accessed.specs.declared.setup.ServerSetup.{ServerSetup}
 use Rattle.dap_accessed.specs.declared.asked.Asked.{Asked}
-use Rattle.dap_accessed.specs.Standing.{Files, file_at, index_by}
-use Rattle.dap_accessed.specs.Adding.{MayStore, with_new_file}
+use Rattle.dap_accessed.specs.Standing.{Files, file_at}
+use Rattle.dap_accessed.specs.Naming.{index_by, number_given}
+use Rattle.dap_accessed.specs.Adding.{MayGive, MayStore, with_new_file}
 use Rattle.dap_accessed.specs.Storing.{StoreRefused}
 use Rattle.dap_accessed.specs.Setup.{all_rights}
 use Rattle.dap_shared.specs.declared.fault.RemoveFault.{RemoveFault}
@@ -378,8 +379,12 @@ used-why false f g P Q same x y = same x y
 
 -- ---- A file.
 
-file-apart : (names : Names) (files : Files) (name : List ℕ) (f : AddFault) → f ≢ add.NoMemory → index_by names name files ≡ None → NotAdded names files name f → ⊥
-file-apart names files name add.FileExists want may h = h may
+none-given : (o : Option ℕ) → o ≡ None → IsSome o → ⊥
+none-given None none some = let no : ⊥ = cc in no
+none-given (Some n) none some = let no : ⊥ = cc in no
+
+file-apart : (names : Names) (files : Files) (name : List ℕ) (f : AddFault) → f ≢ add.NoMemory → MayGive names name files → NotAdded names files name f → ⊥
+file-apart names files name add.FileExists want may h = none-given (number_given names name files) h may
 file-apart names files name add.NoMemory want may h = want refl
 file-apart names files name f want may h = absurd h
 
@@ -399,19 +404,19 @@ module _ (old : Node) (name : List ℕ) (asked : Asked) where
 
   file-not : (one : Node) (f : AddFault) → f ≢ add.NoMemory → GivesFile name asked old one → FileNotGiven name old f → ⊥
   file-not one f want x h =
-      not-given (index_by names name files ≡ None) (NotAdded names files name) (file-apart names files name) (file-why names files name) old.node f want x.given.idle x.first
+      not-given (MayGive names name files) (NotAdded names files name) (file-apart names files name) (file-why names files name) old.node f want x.given.idle x.first
       (not-used (is_used old) _ _ x.idle h)
 
   files-why : (f g : AddFault) → f ≢ add.NoMemory → g ≢ add.NoMemory → FileNotGiven name old f → FileNotGiven name old g → f ≡ g
   files-why f g nf ng x y =
       used-why (is_used old) f g _ _
-      (λ u v. given-why (index_by names name files ≡ None) (NotAdded names files name) (file-apart names files name) (file-why names files name) old.node f g nf ng u v) x y
+      (λ u v. given-why (MayGive names name files) (NotAdded names files name) (file-apart names files name) (file-why names files name) old.node f g nf ng u v) x y
 
   give-file : (one two : Node) (said more : List ℕ) (b c : Became) → HasRun old.node → b ≢ NoMemory → c ≢ NoMemory
       → DoneOr (λ became. became) (GivesFile name asked old one) (FileNotGiven name old) add_refusal (node_without_file old) one said b
       → DoneOr (λ became. became) (GivesFile name asked old two) (FileNotGiven name old) add_refusal (node_without_file old) two more c → Same one two said more b c
   give-file one two said more b c h nb nc (inl x) (inl y) =
-      let t = given-one (with_new_file name asked files) (Gives name asked) old.node one.node two.node h x.0.given y.0.given in (
+      let t = given-one (with_new_file names name asked files) (Gives name asked) old.node one.node two.node h x.0.given y.0.given in (
         x.0.rest ∙ ap (λ (n : NodeValue). record old { node = n; given = one.given }) t.0
             ∙ ap (λ (g : Option (List ℕ)). record old { node = two.node; given = g }) (x.0.named ∙ sym y.0.named) ∙ sym y.0.rest,
         x.1 ∙ sym y.1,

@@ -1,6 +1,6 @@
 -- What a server does by a line, and what it answers. A line concerns one link, or none; where there is room for one
 -- link alone, that link.
-use Rattle.std.specs.Prelude.{◌≡◌, ◌⊎◌, ◌++◌, ◌==◌, Bool, false, true, ℕ, length, MatchBool, MatchOption, MatchResult, List, [], ◌∷◌, codes, replicate, set, slice_get, if◌then◌else◌, Option, Some, None, Result, Ok, Err}
+use Rattle.std.specs.Prelude.{◌≡◌, ◌⊎◌, ◌++◌, ◌==◌, Bool, false, true, ℕ, bytes_eq, length, MatchBool, MatchOption, MatchResult, List, [], ◌∷◌, codes, replicate, set, slice_get, if◌then◌else◌, Option, Some, None, Result, Ok, Err}
 use Rattle.std.specs.List.{list_any, position}
 use Rattle.rec_file.specs.declared.picks.Rights.{Rights}
 use Rattle.nsp_seg.specs.declared.packet.Packet.{Packet}
@@ -16,11 +16,13 @@ use Rattle.dap_msg.specs.Codes.{stscode, reasons}
 use Rattle.dap_accessed.specs.declared.fault.AddFault.{AddFault}
 use Rattle.dap_accessed.specs.declared.fault.AddFault.TheVariants as add
 use Rattle.dap_accessed.specs.declared.setup.Names.{Names}
+use Rattle.dap_accessed.specs.declared.setup.Names.TheVariants.{Exact}
 use Rattle.dap_accessed.specs.declared.setup.ServerSetup.{ServerSetup}
-use Rattle.dap_accessed.specs.Adding.{MayStore, with_new_file}
+use Rattle.dap_accessed.specs.Adding.{MayGive, MayStore, with_new_file}
 use Rattle.dap_accessed.specs.declared.asked.Asked.{Asked}
-use Rattle.dap_accessed.specs.Setup.{all_rights, same_name}
-use Rattle.dap_accessed.specs.Standing.{Files, file_at, index_by}
+use Rattle.dap_accessed.specs.Setup.{all_rights}
+use Rattle.dap_accessed.specs.Standing.{Files, file_at}
+use Rattle.dap_accessed.specs.Naming.{is_alike}
 use Rattle.dap_shared.specs.Nodes.{Begins, Event, Gives, GivesRecord, with_record_at}
 use Rattle.dap_shared.specs.Shared.{AtFile, NotAdded, NotRemoved, RecordNotAdded, SharedAfter, SharedDrops, SharedGiven, rights_on}
 use Rattle.dap_end.specs.declared.fault.EndFault.{EndFault}
@@ -252,11 +254,11 @@ pub record GivenTo (made : Files) (event : Event) (old new : NodeValue) : Type 0
   pub notes : new.noted ≡ record old.noted { shared = new.noted.shared }
   pub ports : new.ports ≡ old.ports
 
--- A file was added, while no link is used: no file had its name. The next records are added to it.
+-- A file was added, while no link is used: it may be given under its name. The next records are added to it.
 pub record GivesFile (name : List ℕ) (asked : Asked) (old new : Node) : Type 0 where
   pub idle : is_used old ≡ false
-  pub first : index_by old.node.noted.shared.setup.names name old.node.noted.shared.files ≡ None
-  pub given : GivenTo (with_new_file name asked old.node.noted.shared.files) (Gives name asked) old.node new.node
+  pub first : MayGive old.node.noted.shared.setup.names name old.node.noted.shared.files
+  pub given : GivenTo (with_new_file old.node.noted.shared.setup.names name asked old.node.noted.shared.files) (Gives name asked) old.node new.node
   pub named : new.given ≡ Some name
   pub rest : new ≡ record old { node = new.node; given = new.given }
 
@@ -305,10 +307,15 @@ AddsRecordTo old r new text became = DoneOr (λ became. became) (GivesNext r old
 
 -- ---- A file that is dropped.
 
--- no file takes records where that is the one that was dropped
+-- two names may find one file: byte by byte, or by their folds
+abbrev pub may_be_one : Names → (one other : List ℕ) → Bool
+may_be_one Exact one other = bytes_eq one other
+may_be_one names one other = is_alike one other
+
+-- no file takes records where that may be the one that was dropped
 abbrev pub given_beside : Names → (dropped : List ℕ) → Option (List ℕ) → Option (List ℕ)
 given_beside names dropped None = None
-given_beside names dropped (Some given) = if same_name names dropped given then None else Some given
+given_beside names dropped (Some given) = if may_be_one names dropped given then None else Some given
 
 -- The file of this name was dropped: no link had it open.
 pub record DropsNamedFile (name : List ℕ) (old new : Node) : Type 0 where

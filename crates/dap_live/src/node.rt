@@ -4,7 +4,7 @@ ghost use Rattle.std.specs.Prelude.{◌≡◌, ◌<◌, ◌⊎◌, ◌==◌, [],
 ghost use Rattle.std.specs.List.{position};
 ghost use Rattle.dap_msg.specs.Blocked.{bodies};
 ghost use Rattle.dap_accessed.specs.Asked.{IsAsked};
-ghost use Rattle.dap_accessed.specs.Setup.{IsServerSetup, all_rights, same_name};
+ghost use Rattle.dap_accessed.specs.Setup.{IsServerSetup, all_rights};
 ghost use Rattle.nsp_link.specs.Link.{IsSetup, SetupFault};
 ghost use Rattle.nsp_link.specs.declared.fault.LinkFault.TheVariants as link_fault;
 ghost use Rattle.dap_end.specs.Ports.{PortValue};
@@ -17,7 +17,7 @@ ghost use Rattle.dap_live.specs.Texts.{LineAnswer};
 ghost use Rattle.dap_live.specs.Inner.NodeReaching.{IsDoneWithText, NodeReaches};
 ghost use Rattle.dap_live.specs.Inner.Filing.{AddsNewTo, GivesRecordBy, HasNoBytes, RecordNotBy};
 ghost use Rattle.dap_live.specs.Orders.{most_anew, most_beside, setup_anew};
-ghost use Rattle.dap_live.specs.Node.{AddsAsked, AddsFileTo, AddsLink, AddsRecordTo, BeginsOn, NodeDoes, DoesNodeOrder, DropsFile, FindsLink, GoesOnWith, IsNewNode, IsNotDone, MayWantMemory, NoLink, ResendsOn, TakesOn, TakesPacketBy, RenewsOn, about, before_line, given_beside, is_alone, is_work_left_at, is_used, meant, one_link, pieces, receiver_of, sender_of, node_without_file, used_by, waits_on as waits_by};
+ghost use Rattle.dap_live.specs.Node.{AddsAsked, AddsFileTo, AddsLink, AddsRecordTo, BeginsOn, NodeDoes, DoesNodeOrder, DropsFile, FindsLink, GoesOnWith, IsNewNode, IsNotDone, MayWantMemory, NoLink, ResendsOn, TakesOn, TakesPacketBy, RenewsOn, about, before_line, given_beside, is_alone, is_work_left_at, is_used, may_be_one, meant, one_link, pieces, receiver_of, sender_of, node_without_file, used_by, waits_on as waits_by};
 
 use crate::answers::{
     push_add_refusal, push_link_refusal, push_node_taken, push_refused, push_remove_refusal,
@@ -668,23 +668,23 @@ fn add_record(
     }
 }
 
-/// Returns whether two names are one, so compared.
-fn are_same(names: Names, one: &[u8], other: &[u8]) -> bool
-    ensures { result ≡ same_name names one.now other.now }
+/// Returns whether two names may find one file: with versions, whichever they ask for.
+fn may_be_one(names: Names, one: &[u8], other: &[u8]) -> bool
+    ensures { result ≡ may_be_one names one.now other.now }
 {
     match names {
         Names::Exact => one == other,
-        Names::Folded => is_alike(one, other),
+        Names::Folded | Names::Versions(_) => is_alike(one, other),
     }
 }
 
-/// Forgets the given name where this name was dropped and is that one.
+/// Forgets the given name where this name was dropped and may be that one.
 fn forget_given(given: &mut Option<Octets>, names: Names, name: &[u8])
     ensures { given.new ≡ given_beside names name.now given.old }
 {
     let is_dropped = match given {
         None => false,
-        Some(last) => are_same(names, name, &last.0),
+        Some(last) => may_be_one(names, name, &last.0),
     };
     if is_dropped {
         *given = None;

@@ -1,6 +1,5 @@
 -- What a node keeps of all links, and the history of what was served.
 use Rattle.std.proofs.Common.{◌≡◌, ℕ, ◌<◌, refl, sym, ◌∙◌, subst, ap, append_assoc, List, [], ◌∷◌, ◌++◌, length, map}
-use Rattle.std.specs.Prelude.{IsTrue, None}
 use Rattle.std.specs.Global.{Vec}
 use Rattle.std.proofs.lemmas.List.{append-nil, map-append}
 use Rattle.dap_msg.specs.declared.items.Item.{Item}
@@ -8,7 +7,7 @@ use Rattle.dap_msg.specs.declared.message.Message.{Message}
 use Rattle.dap_msg.specs.Blocked.{NspMessage, bodies}
 use Rattle.dap_msg.specs.Items.{ItemAt}
 use Rattle.dap_accessed.specs.Served.{AreAnswers}
-use Rattle.dap_accessed.specs.Standing.{Files, file_at, index_by}
+use Rattle.dap_accessed.specs.Standing.{Files, file_at}
 use Rattle.dap_accessed.specs.declared.setup.ServerSetup.{ServerSetup}
 use Rattle.dap_shared.specs.Keeping.{AreOf}
 use Rattle.dap_shared.specs.Nodes.{AnswersOn, Event, FilesAfter, Gives, GivesRecord, Serves, added_on, items_on, limit_on, new_node, node_after}
@@ -25,7 +24,7 @@ use Rattle.dap_network.specs.GivenFiles.{AreGiven, IsGiven}
 use Rattle.dap_network.proofs.SoundNode.{given_more}
 use Rattle.dap_accessed.specs.declared.asked.Asked.{Asked}
 use Rattle.dap_accessed.specs.Asked.{IsAsked}
-use Rattle.dap_accessed.specs.Adding.{MayStore}
+use Rattle.dap_accessed.specs.Adding.{MayGive, MayStore}
 use Rattle.dap_network.proofs.Standing.{PortGrew, PortStands, grew_none, grew_on, grew_posted, grew_served, stands_posted, stands_served}
 
 module _ (own : ServerSetup) (links : ℕ) (first : Files) where
@@ -44,9 +43,9 @@ module _ (own : ServerSetup) (links : ℕ) (first : Files) where
       ∙ ap (λ (n : ℕ). FilesAfter own first n history) h.as_many
 
   -- what is given of the files may be given after the history
-  pub may_file : (history : List Event) (v : SharedValue) (name : List ℕ) (shape : Asked) → Stays history v → IsAsked shape → index_by v.setup.names name v.files ≡ None → IsGiven own (node_after own first links history) (Gives name shape)
+  pub may_file : (history : List Event) (v : SharedValue) (name : List ℕ) (shape : Asked) → Stays history v → IsAsked shape → MayGive v.setup.names name v.files → IsGiven own (node_after own first links history) (Gives name shape)
   may_file history v name shape h good none =
-      (good, subst (λ (l : Files). index_by own.names name l ≡ None) (files_are history v h) (subst (λ (o : ServerSetup). index_by o.names name v.files ≡ None) h.is_own none))
+      (good, subst (λ (l : Files). MayGive own.names name l) (files_are history v h) (subst (λ (o : ServerSetup). MayGive o.names name v.files) h.is_own none))
 
   pub may_record : (history : List Event) (v : SharedValue) (at number : ℕ) (body : List ℕ) → Stays history v → at < length v.files → MayStore (file_at at v.files) number body → IsGiven own (node_after own first links history) (GivesRecord at number body)
   may_record history v at number body h lt may =

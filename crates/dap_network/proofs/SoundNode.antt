@@ -17,7 +17,8 @@ use Rattle.dap_accessed.specs.Standing.{Files, ServerState, Fresh, Ready, Opened
 use Rattle.dap_accessed.specs.Asked.{made_file}
 use Rattle.dap_accessed.specs.declared.phase.OpenFile.{OpenFile}
 use Rattle.dap_accessed.specs.declared.setup.ServerSetup.{ServerSetup}
-use Rattle.dap_accessed.proofs.ForCallers.{stored-file, more-sound, all-without, distinct-more, distinct-with, distinct-without, file-there, files-more, files-with, none-passes, none_exact, more-leaves}
+use Rattle.dap_accessed.proofs.ForCallers.{stored-file, more-sound, all-without, distinct-more, distinct-with, distinct-without, file-there, files-more, files-with, given-none, more-leaves, name-new}
+use Rattle.dap_accessed.specs.Adding.{name_given}
 use Rattle.dap_shared.specs.Nodes.{Event, Exchange, Node, Serves, Begins, Drops, Gives, GivesRecord, after_all, after_event, asked_on, end_at, exchange_at, exchange_moved_up, exchange_of, is_open, more_beside, new_exchange, no_exchange, open_beside, removed_by, setup_on, without_file}
 use Rattle.dap_shared.specs.Sharing.{asks_to_open, file_locked, is_locked, open_in}
 use Rattle.dap_shared.proofs.ForCallers.{IsShared, new-stays, one-new}
@@ -112,7 +113,7 @@ drop_by node at h false =
 pub event_sound : (own : ServerSetup) (node : Node) (event : Event) → IsShared node → IsGiven own node event → IsSoundNode node → IsSoundNode (after_event own node event)
 event_sound own node (Serves link item) s g h = item_sound own node link item s h
 event_sound own node (Begins link most) s g h = record { files = h.files; limits = λ j. one-new node.exchanges link j (new_exchange most) HasLimit (new_limit most) (h.limits j) }
-event_sound own node (Gives name shape) s g h = record { files = files-more node.files name shape h.files g.0 (none_exact own.names name node.files g.1); limits = h.limits }
+event_sound own node (Gives name shape) s g h = record { files = files-more node.files (name_given own.names name node.files) shape h.files g.0 (given-none own.names name node.files g.1); limits = h.limits }
 event_sound own node (GivesRecord at number body) s g h =
     record { files = files-with node.files at (file_with_record (file_at at node.files) number body) h.files (stored-file (file_at at node.files) number body (file-there node.files at h.files.files g.0) g.1); limits = h.limits }
 event_sound own node (Drops at) s g h = drop_by node at h (is_open at node)
@@ -136,7 +137,7 @@ event_apart own node (Serves link item) g h =
     apart_lock its c item h (is_locked others (asks_to_open its c.standing.scene.files c.standing.state item))
 event_apart own node (Begins link most) g h = h
 event_apart own node (Gives name shape) g h =
-    distinct-more (λ one other. same_name own.names one other) node.files (name, made_file shape) h (none-passes (λ (f : List ℕ × _). same_name own.names f.0 name) node.files g.1)
+    distinct-more (λ one other. same_name own.names one other) node.files (name_given own.names name node.files, made_file shape) h (name-new own.names name node.files g.1)
 event_apart own node (GivesRecord at number body) g h =
     distinct-with (λ one other. same_name own.names one other) node.files at (file_with_record (file_at at node.files) number body) h
 event_apart own node (Drops at) g h = apart_drop own node at h (is_open at node)

@@ -1,12 +1,12 @@
 -- A serving node, whoever its peers are: what happens to it, one after another.
-use Rattle.std.specs.Prelude.{◌≡◌, ℕ, ◌<◌, ◌==◌, if◌then◌else◌, IsTrue, List, [], ◌∷◌, ◌++◌, length, map, set, Option, None, Some}
+use Rattle.std.specs.Prelude.{◌≡◌, ℕ, ◌<◌, ◌==◌, if◌then◌else◌, List, [], ◌∷◌, ◌++◌, length, map, set, Option, Some}
 use Rattle.dap_accessed.specs.declared.asked.Asked.{Asked}
 use Rattle.rec_file.specs.declared.picks.Rights.{Rights}
 use Rattle.dap_accessed.specs.Asked.{IsAsked}
 use Rattle.nsp_link.specs.declared.link.LinkSetup.{LinkSetup}
 use Rattle.nsp_link.specs.Link.{IsSetup, LinkValue}
-use Rattle.dap_accessed.specs.Adding.{MayStore}
-use Rattle.dap_accessed.specs.Standing.{Files, file_at, index_by}
+use Rattle.dap_accessed.specs.Adding.{MayGive, MayStore}
+use Rattle.dap_accessed.specs.Standing.{Files, file_at}
 use Rattle.dap_shared.specs.Nodes.{Gives, GivesRecord}
 use Rattle.dap_shared.specs.Shared.{SharedAfter, SharedDrops, SharedGiven, SharedServed, SharedValue}
 use Rattle.dap_end.specs.By.{ServedBy, ServesAt, end_with}
@@ -52,8 +52,8 @@ pub data NodeEvent : Type 0 where
   GotRecord : (at number : ℕ) → (body : List ℕ) → NodeEvent
   LostFile : (at : ℕ) → NodeEvent
 
--- What each of these does. Anything may come. A file that is given has a new name, and may be made so, and
--- a record is one that its file takes.
+-- What each of these does. Anything may come. A file may be given under its name, and be made so, and a record is one
+-- that its file takes.
 abbrev pub NodeStepped : NodeValue → NodeEvent → NodeValue → Type 0
 NodeStepped old (PacketCame link c) new = LinkStepped link (λ v bytes. v ≡ c.0) old (Came c.1) [] new
 NodeStepped old (Continued link wrote) new = LinkStepped link (λ v bytes. Unit {0}) old GoesOn wrote new
@@ -62,7 +62,7 @@ NodeStepped old (GotLink link setup most) new = IsSetup setup × BeganOn link se
 NodeStepped old (LostLink link) new = EndedOn link old new
 NodeStepped old (GotFile name asked) new =
     let v = old.noted.shared in
-    IsAsked asked × (index_by v.setup.names name v.files ≡ None) × SharedGiven (Gives name asked) v new.noted.shared × (new.ports ≡ old.ports)
+    IsAsked asked × MayGive v.setup.names name v.files × SharedGiven (Gives name asked) v new.noted.shared × (new.ports ≡ old.ports)
 NodeStepped old (GotRecord at number body) new =
     let v = old.noted.shared in
     (at < length v.files) × MayStore (file_at at v.files) number body × SharedGiven (GivesRecord at number body) v new.noted.shared × (new.ports ≡ old.ports)

@@ -46,7 +46,7 @@ here own (x ∷ b) a s = here own b a s
 pub moves-on : (own : ServerSetup) (item : Item) (files files' : Files) (b a b' a' : List SessionValue) (s s' : SessionValue) (answers : Vec (Vec ℕ)) → MovesAmong item files b s a files' b' s' a' answers
     → MovesOn own (length b) item files (b ++ s ∷ a) files' (b' ++ s' ∷ a') answers
 moves-on own item files files' b a b' a' s s' answers m =
-    let r : Option OpenFile = gone_by (asked_in s.setup files s.phase item) files files' s.phase in
+    let r : Option OpenFile = gone_by (asked_in s.setup files s.phase item) files files' s.phase s'.phase in
     let many : length b' ≡ length b = ap (λ (l : List SessionValue). length l) m.first ∙ length-map b (session_moved_up r) in
     let moved : b' ++ no_session own ∷ a' ≡ map (session_moved_up r) (b ++ no_session own ∷ a) =
     ap (λ (l : List SessionValue). l ++ no_session own ∷ a') m.first

@@ -3,8 +3,6 @@ use Rattle.std.proofs.Common.{◌≡◌, ℕ, ◌<◌, Bool, true, false, List, 
 use Rattle.std.specs.Prelude.{◌+◌, IfSome, if◌then◌else◌, ◌==◌, ◌||◌, ◌&&◌, not, take_while, drop, option_map}
 use Rattle.std.specs.List.{prefix_len, remove}
 use Rattle.std.proofs.lemmas.Bool.Decides.{nat_tests}
-use Rattle.dap_accessed.specs.declared.setup.Names.{Names}
-use Rattle.dap_accessed.specs.declared.setup.Names.TheVariants.{Exact, Folded}
 use Rattle.dap_accessed.specs.declared.setup.ServerSetup.{ServerSetup}
 use Rattle.dap_msg.specs.Codes as codes
 use Rattle.dap_msg.specs.BothEnds.{is_too_small}
@@ -25,19 +23,20 @@ use Rattle.rec_file.specs.Acts.{Operation, StreamVal, outcome_of, act, get_recor
 use Rattle.dap_accessed.specs.declared.phase.OpenFile.{OpenFile}
 use Rattle.dap_accessed.specs.declared.verbs.Verb.{Verb}
 use Rattle.dap_accessed.specs.declared.verbs.Verb.TheVariants as verbs
-use Rattle.dap_accessed.specs.Standing.{Files, index_by, index_to_erase, file_at, with_file, the_file, ServerState, Fresh, Ready, Opened, Connected, Store, Stopped, Group, Standing, Scene, Effect, enters}
+use Rattle.dap_accessed.specs.Standing.{Files, file_at, with_file, the_file, ServerState, Fresh, Ready, Opened, Connected, Store, Stopped, Group, Standing, Scene, Effect, enters}
+use Rattle.dap_accessed.specs.Naming.{index_by, index_to_erase, index_to_replace, name_with, number_made}
 use Rattle.dap_accessed.specs.Past.{asked_file, kept_attributes, is_dropping, ordinal_so_far}
 use Rattle.dap_accessed.specs.Accesses.{make_file, open_file, create_file, erase_file, access_file, end_stream, complete, refuse_access, rights_to_create, rights_to_erase, rights_to_open}
 use Rattle.dap_accessed.specs.Replies.{erased_with, opened_with, reason_of, refused_access}
-use Rattle.dap_accessed.specs.Setup.{asks_for_one, lacks}
+use Rattle.dap_accessed.specs.Setup.{lacks}
 use Rattle.dap_accessed.specs.Records.{at_number, verb_of, get_pick, got, record_got, effect_of_outcome, Change, Putting, Updating, effect_of_change, fits_limit, stream_without_current}
 use Rattle.dap_accessed.specs.Transfers.{fetch, fetch_ends, continue_fetch, store_one}
 use Rattle.dap_accessed.specs.Effects.{Begun, Turn, Does, BeginsGroup, control_opened, control_connected, turn_in, turn_of, effect_with}
 use Rattle.dap_accessed.specs.Groups.{GroupedItems, after_two}
 use Rattle.dap_accessed.specs.Groups.{next_group, more_after, after_item}
 use Rattle.dap_accessed.proofs.ForCallers.{with-same}
-use Rattle.dap_accessed.proofs.ForCallers.{index-within}
-use Rattle.dap_accessed.specs.Sessions.{erased_at, erased_if, there_at, there_if, would_open}
+use Rattle.dap_accessed.proofs.ForCallers.{erased-within, index-within, replaced-within}
+use Rattle.dap_accessed.specs.Sessions.{erased_at, erased_if, replaced_if, there_at, there_if, would_open}
 use Rattle.dap_shared.specs.Sharing.{open_in, asks_to_open}
 
 abbrev pub may_write : Rights → Bool
@@ -48,8 +47,10 @@ pub data Moved (files : Files) (asks : Option OpenFile) : Option OpenFile → Fi
   keeps : (held : Option OpenFile) → Moved files asks held files held
   closes : (held : Option OpenFile) → Moved files asks held files None
   writes : (o : OpenFile) (file : FileVal) → may_write o.rights ≡ true → Moved files asks (Some o) (with_file o.at file files) (Some o)
-  opens : (o : OpenFile) → o.at < length files → asks ≡ Some o → Moved files asks None files (Some o)
+  opens : (o : OpenFile) → o.at < length files → asks ≡ Some o → o.is_new ≡ false → Moved files asks None files (Some o)
   makes : (entry : List ℕ × FileVal) (o : OpenFile) → o.at ≡ length files → Moved files asks None (files ++ entry ∷ []) (Some o)
+  replaces : (r : OpenFile) (entry : List ℕ × FileVal) (o : OpenFile) → r.at < length files → may_write r.rights ≡ true → asks ≡ Some r → o.is_new ≡ true → o.at ≡ length (remove files r.at)
+      → Moved files asks None (remove files r.at ++ entry ∷ []) (Some o)
   removes : (o : OpenFile) → o.is_new ≡ true → Moved files asks (Some o) (remove files o.at) None
   erases : (o : OpenFile) → o.at < length files → may_write o.rights ≡ true → asks ≡ Some o → Moved files asks None (remove files o.at) None
 
@@ -106,18 +107,15 @@ allowed delete_record rights e = ap (λ b. rights.put || (rights.upd || b)) e �
 
 -- ---- Groups.
 
--- an Access that erases doesn't open
-not-both : (full : Bool) (func : ℕ) → (full && func == codes.accfunc.erasing) ≡ true → (func == codes.accfunc.opening) ≡ false
-not-both full func e = grind (arith, nat_tests)
+-- an Access that creates doesn't open, and one that erases does neither
+create-no-open : (func : ℕ) → (func == codes.accfunc.creating) ≡ true → (func == codes.accfunc.opening) ≡ false
+create-no-open func e = grind (arith, nat_tests)
 
--- a name that lets a file be erased gives its index
-erase-within : (names : Names) (name : List ℕ) (files : Files) → IfSome (index_to_erase names name files) (λ n. n < length files)
-erase-within Exact name files = index-within Exact name files
-erase-within Folded name files = by (asks_for_one name)
-  where
-    by : (b : Bool) → IfSome (if b then index_by Folded name files else None) (λ n. n < length files)
-    by true = index-within Folded name files
-    by false = tt
+erase-no-open : (full : Bool) (func : ℕ) → (full && func == codes.accfunc.erasing) ≡ true → (func == codes.accfunc.opening) ≡ false
+erase-no-open full func e = grind (arith, nat_tests)
+
+erase-no-create : (full : Bool) (func : ℕ) → (full && func == codes.accfunc.erasing) ≡ true → (func == codes.accfunc.creating) ≡ false
+erase-no-create full func e = grind (arith, nat_tests)
 
 module _ (scene : Scene) (asks : Option OpenFile) where
   pub record Left (held : Option OpenFile) (e : Effect) : Type 0 where
@@ -144,30 +142,43 @@ module _ (scene : Scene) (asks : Option OpenFile) where
 
   -- ---- Accesses.
 
-  opening-if : (own : ServerSetup) (a : AccessFields) (at : ℕ) (lack : Bool) → lacks own.most (rights_to_open a.fac) ≡ lack → asks ≡ would_open own scene.files a → index_by own.names a.name scene.files ≡ Some at
-      → (a.func == codes.accfunc.opening) ≡ true
+  -- what an Access asks for, by which one it is
+  abbrev asks_by : ServerSetup → AccessFields → (to_open to_create to_erase : Bool) → Option OpenFile
+  asks_by own a to_open to_create to_erase =
+      if to_open then there_if own a.fac (index_by own.names a.name scene.files)
+      else if to_create then replaced_if own a.fac (index_to_replace own.names a.name scene.files)
+      else if to_erase then erased_if own (index_to_erase own.names a.name scene.files)
+      else None
+
+  opening-if : (own : ServerSetup) (a : AccessFields) (at : ℕ) (lack : Bool) → lacks own.most (rights_to_open a.fac) ≡ lack → asks ≡ there_if own a.fac (index_by own.names a.name scene.files) → index_by own.names a.name scene.files ≡ Some at
       → Left None (if lack then refuse_access scene (refused_access (reason_of NotPermitted)) else enters scene (Opened (there_at a.fac at)) (opened_with (file_at at scene.files).shape (file_at at scene.files).look))
-  opening-if own a at true l w p e = entering Ready _ tt
-  opening-if own a at false l w p e =
-      let found = index_by own.names a.name scene.files in
+  opening-if own a at true l w p = entering Ready _ tt
+  opening-if own a at false l w p =
       record {
         moved = opens (there_at a.fac at) (subst (λ (x : Option ℕ). IfSome x (λ n. n < length scene.files)) p (index-within own.names a.name scene.files))
-            (w ∙ ap (λ (b : Bool). if b then there_if own a.fac found else (if own.full && a.func == codes.accfunc.erasing then erased_if own (index_to_erase own.names a.name scene.files) else None)) e
-            ∙ ap (λ (b : Bool). if b then None else option_map (there_at a.fac) found) l ∙ ap (option_map (there_at a.fac)) p);
+            (w ∙ ap (λ (b : Bool). if b then None else option_map (there_at a.fac) (index_by own.names a.name scene.files)) l ∙ ap (option_map (there_at a.fac)) p) refl;
         rights = tt;
       }
 
-  opening : (own : ServerSetup) (a : AccessFields) (at : Option ℕ) → asks ≡ would_open own scene.files a → index_by own.names a.name scene.files ≡ at → (a.func == codes.accfunc.opening) ≡ true → Left None (open_file own scene a.fac at)
-  opening own a None w p e = entering Ready _ tt
-  opening own a (Some at) w p e = opening-if own a at (lacks own.most (rights_to_open a.fac)) refl w p e
+  opening : (own : ServerSetup) (a : AccessFields) (at : Option ℕ) → asks ≡ there_if own a.fac (index_by own.names a.name scene.files) → index_by own.names a.name scene.files ≡ at → Left None (open_file own scene a.fac at)
+  opening own a None w p = entering Ready _ tt
+  opening own a (Some at) w p = opening-if own a at (lacks own.most (rights_to_open a.fac)) refl w p
 
-  making : (name : List ℕ) (fac : ℕ) (shape : Option Asked) → Left None (make_file scene name fac shape)
-  making name fac None = entering Ready _ tt
-  making name fac (Some shape) = record { moved = makes (name, made_file shape) _ refl; rights = tt }
+  making : (new : List ℕ) (fac : ℕ) (replaced : Option ℕ) (shape : Option Asked) → IfSome replaced (λ n. n < length scene.files) → asks ≡ option_map erased_at replaced → Left None (make_file scene new fac replaced shape)
+  making new fac replaced None lt w = entering Ready _ tt
+  making new fac None (Some shape) lt w = record { moved = makes (new, made_file shape) _ refl; rights = tt }
+  making new fac (Some at) (Some shape) lt w = record { moved = replaces (erased_at at) (new, made_file shape) _ lt refl w refl refl; rights = tt }
 
-  creating : (own : ServerSetup) (name : List ℕ) (fac : ℕ) (at : Option ℕ) (shape : Option Asked) → Left None (create_file own scene name fac at shape)
-  creating own name fac (Some at) shape = entering Ready _ tt
-  creating own name fac None shape = either None (lacks own.most (rights_to_create fac)) _ _ (entering Ready _ tt) (making name fac shape)
+  creating-if : (own : ServerSetup) (a : AccessFields) (new : List ℕ) (shape : Option Asked) (lack : Bool) → lacks own.most (rights_to_create a.fac) ≡ lack → asks ≡ replaced_if own a.fac (index_to_replace own.names a.name scene.files)
+      → Left None (if lack then refuse_access scene (refused_access (reason_of NotPermitted)) else make_file scene new a.fac (index_to_replace own.names a.name scene.files) shape)
+  creating-if own a new shape true l w = entering Ready _ tt
+  creating-if own a new shape false l w =
+      let replaced = index_to_replace own.names a.name scene.files in
+      making new a.fac replaced shape (replaced-within own.names a.name scene.files) (w ∙ ap (λ (b : Bool). if b then None else option_map erased_at replaced) l)
+
+  creating : (own : ServerSetup) (a : AccessFields) (number : Option ℕ) (shape : Option Asked) → asks ≡ replaced_if own a.fac (index_to_replace own.names a.name scene.files) → Left None (create_file own scene a.name a.fac number shape)
+  creating own a None shape w = entering Ready _ tt
+  creating own a (Some n) shape w = creating-if own a (name_with own.names a.name n) shape (lacks own.most (rights_to_create a.fac)) refl w
 
   erasing-if : (own : ServerSetup) (at : ℕ) (lack : Bool) → lacks own.most rights_to_erase ≡ lack → at < length scene.files → asks ≡ erased_if own (Some at)
       → Left None (if lack then refuse_access scene (refused_access (reason_of NotPermitted)) else enters (record scene { files = remove scene.files at }) Ready erased_with)
@@ -179,23 +190,18 @@ module _ (scene : Scene) (asks : Option OpenFile) where
   erasing own None lt w = entering Ready _ tt
   erasing own (Some at) lt w = erasing-if own at (lacks own.most rights_to_erase) refl lt w
 
-  -- what would be opened by an Access that erases
-  asks-erased : (own : ServerSetup) (a : AccessFields) → (own.full && a.func == codes.accfunc.erasing) ≡ true → asks ≡ would_open own scene.files a
-      → asks ≡ erased_if own (index_to_erase own.names a.name scene.files)
-  asks-erased own a e w =
-      let found = index_to_erase own.names a.name scene.files in
-      let none = not-both own.full a.func e in
-      w ∙ ap (λ (x : Bool). if x then there_if own a.fac (index_by own.names a.name scene.files) else (if own.full && a.func == codes.accfunc.erasing then erased_if own found else None)) none
-      ∙ ap (λ (x : Bool). if x then erased_if own found else None) e
-
   accessing : (own : ServerSetup) (a : AccessFields) (shape : Option Asked) → asks ≡ would_open own scene.files a → Left None (access_file own scene a shape)
   accessing own a shape w =
-      let found = index_by own.names a.name scene.files in
-      let erased = index_to_erase own.names a.name scene.files in
-      either-is None (a.func == codes.accfunc.opening) _ _ (opening own a found w refl)
-      (either None (a.func == codes.accfunc.creating) _ _ (creating own a.name a.fac found shape)
-      (either-is None (own.full && a.func == codes.accfunc.erasing) _ _
-      (λ e. erasing own erased (erase-within own.names a.name scene.files) (asks-erased own a e w))
+      let to_open : Bool = a.func == codes.accfunc.opening in
+      let to_create : Bool = a.func == codes.accfunc.creating in
+      let to_erase : Bool = own.full && a.func == codes.accfunc.erasing in
+      either-is None to_open _ _ (λ e. opening own a (index_by own.names a.name scene.files) (w ∙ ap (λ (b : Bool). asks_by own a b to_create to_erase) e) refl)
+      (either-is None to_create _ _
+      (λ e. creating own a (number_made own.names a.name scene.files) shape
+      (w ∙ ap (λ (b : Bool). asks_by own a b to_create to_erase) (create-no-open a.func e) ∙ ap (λ (b : Bool). asks_by own a false b to_erase) e))
+      (either-is None to_erase _ _
+      (λ e. erasing own (index_to_erase own.names a.name scene.files) (erased-within own.names a.name scene.files)
+      (w ∙ ap (λ (b : Bool). asks_by own a b to_create to_erase) (erase-no-open own.full a.func e) ∙ ap (λ (b : Bool). asks_by own a false b to_erase) (erase-no-create own.full a.func e) ∙ ap (λ (b : Bool). asks_by own a false false b) e))
       (entering Ready _ tt)))
 
   purging : (o : OpenFile) (new : Bool) (answers : List Message) → o.is_new ≡ new → Left (Some o) (enters (record scene { files = if new then remove scene.files o.at else scene.files }) Ready answers)

@@ -2,7 +2,6 @@
 use Rattle.std.proofs.Common.{◌≡◌, ◌≢◌, ℕ, zero, suc, ◌<◌, ◌≤◌, Bool, true, false, List, [], ◌∷◌, length, map, Option, Some, None, refl, ap, sym, subst, ◌∙◌, inl, inr, arith, eq-eqb}
 use Rattle.std.specs.Prelude.{IfSome, if◌then◌else◌, ◌==◌, ◌||◌, ◌&&◌, get_or, set, replicate, option_map}
 use Rattle.std.specs.List.{list_any}
-use Rattle.std.specs.Option.{option_or}
 use Rattle.std.proofs.lemmas.Bool.{cases_eq, ne_eqb}
 use Rattle.std.proofs.lemmas.List.{get_or-set_same, get_or-set_other, length-append, length-map, length-set, length-replicate}
 use Rattle.std.proofs.Math.ListN.{get_or-map}
@@ -12,7 +11,7 @@ use Rattle.dap_accessed.specs.declared.phase.OpenFile.{OpenFile}
 use Rattle.dap_accessed.specs.Replies.{bare_status}
 use Rattle.rec_file.specs.Files.{file_with_record}
 use Rattle.rec_file.specs.declared.picks.Rights.{Rights}
-use Rattle.dap_accessed.specs.Adding.{with_new_file}
+use Rattle.dap_accessed.specs.Adding.{name_given, with_new_file}
 use Rattle.dap_accessed.specs.Asked.{made_file}
 use Rattle.dap_accessed.specs.Sessions.{moved_up}
 use Rattle.dap_accessed.proofs.ForCallers.{length-with}
@@ -26,7 +25,7 @@ use Rattle.dap_shared.specs.Sharing.{open_in, has_alone, are_apart, bars, is_fil
 use Rattle.dap_shared.specs.Nodes.{Exchange, Node, new_exchange, no_exchange, new_node, exchange_at, exchange_of, end_at, before_files, open_on, open_beside, more_beside, begun_moved_up, exchange_moved_up, exchange_without, removed_by, asked_on, is_open, without_file, with_record_at, setup_on, after_event, after_all, node_after, Event, Serves, Begins, Gives, GivesRecord, Drops}
 use Rattle.dap_shared.proofs.Changes.{closes, HasRights, IsSteady, Goes, one-goes}
 use Rattle.dap_shared.specs.Keeping.{AreOf, AreApart, HoldsStill}
-use Rattle.dap_shared.proofs.Shares.{shifted, Aside, aside, dropped, aside-dropped, gone, none-gone, two-options, own-within}
+use Rattle.dap_shared.proofs.Shares.{shifted, Aside, aside, dropped, aside-dropped, gone, stays-none, two-options, own-within}
 
 -- the link's stream has the rights of its Access
 abbrev pub IsSteadyExchange : Exchange → Type 0
@@ -111,6 +110,19 @@ nothing (Some o) = tt
 
 -- ---- An item.
 
+-- what it does, where it is locked out or not
+goes-by : (own : ServerSetup) (node : Node) (link : ℕ) (item : Item) → IsShared node → (locked : Bool) → let old = end_at link node in let its = setup_on own link node in
+    Goes old (if locked then next_group its old.standing item (Does (refuse_access old.standing.scene (bare_status file_locked))) else after_item its old item) (if locked then None else asks_to_open its node.files old.standing.state item)
+goes-by own node link item h true = record { moved = closes (open_on (exchange_at link node)); steady = record { rights = tt; begun = tt } }
+goes-by own node link item h false = one-goes (setup_on own link node) (end_at link node) item (record { rights = (h.steady link).rights; begun = (h.steady link).begun })
+
+-- a group of two that it begins has the open file
+pub served-begun : (own : ServerSetup) (node : Node) (link : ℕ) (item : Item) → IsShared node → let new = more_beside (setup_on own link node) (open_beside link node.exchanges) (end_at link node) item in
+    IfSome new.begun (λ b. (open_in new.standing.state ≡ Some b.opened) × (b.stream.rights ≡ b.opened.rights))
+served-begun own node link item h =
+    let its = setup_on own link node in
+    (goes-by own node link item h (is_locked (open_beside link node.exchanges) (asks_to_open its node.files (exchange_at link node).state item))).steady.begun
+
 module _ (own : ServerSetup) (node : Node) (link : ℕ) (item : Item) (there : link < length node.exchanges) (h : IsShared node) where
   abbrev old : GroupedItems
   old = end_at link node
@@ -139,17 +151,13 @@ module _ (own : ServerSetup) (node : Node) (link : ℕ) (item : Item) (there : l
   abbrev asks : Bool → Option OpenFile
   asks locked = if locked then None else asked
 
-  by-lock : (locked : Bool) → Goes old (if locked then next_group its old.standing item (Does (refuse_access old.standing.scene (bare_status file_locked))) else after_item its old item) (asks locked)
-  by-lock true = record { moved = closes (open_in old.standing.state); steady = record { rights = tt; begun = tt } }
-  by-lock false = one-goes its old item (record { rights = (h.steady link).rights; begun = (h.steady link).begun })
-
   went : Goes old new (asks (is_locked others asked))
-  went = by-lock (is_locked others asked)
+  went = goes-by own node link item h (is_locked others asked)
 
   -- where a file is locked, nothing is gone
   same-gone : (locked : Bool) → let d = (if locked then next_group its old.standing item (Does (refuse_access old.standing.scene (bare_status file_locked))) else after_item its old item) in
-      gone node.files d.standing.scene.files (option_or (open_in old.standing.state) (asks locked)) ≡ gone node.files d.standing.scene.files (option_or (open_in old.standing.state) asked)
-  same-gone true = none-gone node.files node.files _ (omega arith) ∙ sym (none-gone node.files node.files _ (omega arith))
+      gone node.files d.standing.scene.files (open_in old.standing.state) (open_in d.standing.state) (asks locked) ≡ gone node.files d.standing.scene.files (open_in old.standing.state) (open_in d.standing.state) asked
+  same-gone true = stays-none node.files (open_in old.standing.state) None ∙ sym (stays-none node.files (open_in old.standing.state) asked)
   same-gone false = refl
 
   exchange-own : exchange_at link after ≡ exchange_of most new
@@ -372,8 +380,8 @@ all-share own links node (Serves link item ∷ events) n o h =
 all-share own links node (Begins link most ∷ events) n o h =
     all-share own links (after_event own node (Begins link most)) events (length-set node.exchanges link (new_exchange most) ∙ n) o.1 (begin-shares own node link most h)
 all-share own links node (Gives name asked ∷ events) n o h =
-    let longer = length-append node.files ((name, made_file asked) ∷ []) in
-    all-share own links (after_event own node (Gives name asked)) events n o (given-shares node (with_new_file name asked node.files) (omega (arith, longer)) h)
+    let longer = length-append node.files ((name_given own.names name node.files, made_file asked) ∷ []) in
+    all-share own links (after_event own node (Gives name asked)) events n o (given-shares node (with_new_file own.names name asked node.files) (omega (arith, longer)) h)
 all-share own links node (GivesRecord at number body ∷ events) n o h =
     let same = length-with node.files at (file_with_record (file_at at node.files) number body) in
     all-share own links (after_event own node (GivesRecord at number body)) events n o (given-shares node (with_record_at at number body node.files) (omega (arith, same)) h)

@@ -21,7 +21,8 @@ use Rattle.dap_accessed.specs.declared.served.Served.{Served}
 use Rattle.dap_accessed.specs.declared.phase.OpenFile.{OpenFile}
 use Rattle.dap_accessed.specs.declared.phase.Phase.{Phase}
 use Rattle.dap_accessed.specs.declared.phase.Phase.TheVariants as phases
-use Rattle.dap_accessed.specs.Standing.{Files, file_at, index_by, with_file}
+use Rattle.dap_accessed.specs.Standing.{Files, file_at, with_file}
+use Rattle.dap_accessed.specs.Naming.{index_by}
 use Rattle.dap_accessed.specs.Adding.{MayStore, with_new_file}
 use Rattle.dap_accessed.specs.Storing.{StoreRefused, Stores}
 use Rattle.dap_accessed.specs.Sessions.{SessionValue, IsOpenIn, session_with, open_at, phase_moved_up}
@@ -133,7 +134,7 @@ on-held v link item files sessions answers h lt m =
       events = h.events ++ Serves link item ∷ [];
       after = (on-shared v link item files sessions answers h lt m).stands h.first h.events h.after;
       numbers = λ i. subst (λ (l : List SessionValue). HasNumber (session_at v.setup i l).phase) (sym m.back)
-          (numbers-then v.setup v.sessions link (gone_by (asked_by (session_at v.setup link v.sessions) v.files item) v.files files (session_at v.setup link v.sessions).phase) m.others m.session lt m.moves.moved (has-number files m.session.phase m.moves.there) h.numbers i);
+          (numbers-then v.setup v.sessions link (gone_by (asked_by (session_at v.setup link v.sessions) v.files item) v.files files (session_at v.setup link v.sessions).phase m.session.phase) m.others m.session lt m.moves.moved (has-number files m.session.phase m.moves.there) h.numbers i);
     }
 
 pub served-held : (v : SharedValue) (link : ℕ) (item : Item) (files : Files) (sessions : List SessionValue) (r : Result Served NoMemory) → IsHeld v → link < length v.sessions
@@ -169,9 +170,9 @@ drops-held v at h closed =
           (phase-number at (session_at v.setup i v.sessions).phase (h.numbers i));
     }
 
-pub gives-shared : (v : SharedValue) (name : List ℕ) (asked : Asked) (files : Files) → files ≡ with_new_file name asked v.files → SharedGiven (Gives name asked) v (record v { files = files })
+pub gives-shared : (v : SharedValue) (name : List ℕ) (asked : Asked) (files : Files) → files ≡ with_new_file v.setup.names name asked v.files → SharedGiven (Gives name asked) v (record v { files = files })
 gives-shared v name asked files e =
-    subst (λ (t : Files). SharedGiven (Gives name asked) v (record v { files = t })) (sym e) (given-shared v (Gives name asked) (with_new_file name asked) (λ links. tt) (λ node. refl))
+    subst (λ (t : Files). SharedGiven (Gives name asked) v (record v { files = t })) (sym e) (given-shared v (Gives name asked) (with_new_file v.setup.names name asked) (λ links. tt) (λ node. refl))
 
 pub gives-record : (v : SharedValue) (at number : ℕ) (body : List ℕ) (files : Files) → files ≡ with_record_at at number body v.files → SharedGiven (GivesRecord at number body) v (record v { files = files })
 gives-record v at number body files e =
@@ -250,7 +251,7 @@ served-many own link item files files' sessions sessions' (Ok served) ok err =
     ap (λ (l : List SessionValue). length l) ok.back
     ∙ length-set ok.others link ok.session
     ∙ ap (λ (l : List SessionValue). length l) ok.moves.moved
-    ∙ length-map (set sessions link (no_session own)) (session_moved_up (gone_by (asked_by (session_at own link sessions) files item) files files' (session_at own link sessions).phase))
+    ∙ length-map (set sessions link (no_session own)) (session_moved_up (gone_by (asked_by (session_at own link sessions) files item) files files' (session_at own link sessions).phase ok.session.phase))
     ∙ length-set sessions link (no_session own)
 served-many own link item files files' sessions sessions' (Err f) ok err = ap (λ (l : List SessionValue). length l) err.1
 

@@ -1,7 +1,8 @@
 -- No two links share a file that one of them may change, and what a link has open stays as it is while others are
 -- served.
-use Rattle.std.proofs.Common.{◌≡◌, ◌≢◌, ℕ, suc, ◌+◌, ◌-◌, ◌<◌, ◌≤◌, Bool, true, false, [], ◌∷◌, ◌++◌, length, Option, Some, None, refl, ap, sym, subst, ◌∙◌, inl, inr, arith, eq-eqb}
-use Rattle.std.specs.Prelude.{IfSome, if◌then◌else◌, ◌==◌, ◌||◌, ◌&&◌, drop, nat_lt, option_map}
+use Rattle.std.proofs.Common.{◌≡◌, ◌≢◌, ℕ, suc, ◌+◌, ◌-◌, ◌<◌, ◌≤◌, Bool, true, false, List, [], ◌∷◌, ◌++◌, length, Option, Some, None, refl, ap, sym, subst, ◌∙◌, inl, inr, arith, eq-eqb}
+use Rattle.std.specs.Prelude.{IfSome, if◌then◌else◌, ◌==◌, ◌||◌, ◌&&◌, drop, nat_le, nat_lt, option_map}
+use Rattle.std.proofs.lemmas.Bool.Decides.{nat_tests}
 use Rattle.std.specs.List.{remove}
 use Rattle.std.specs.Option.{option_or}
 use Rattle.std.proofs.lemmas.Bool.{cases_lt, cases_eq, lt-ltb, le-ltb, ne_eqb}
@@ -9,12 +10,13 @@ use Rattle.std.proofs.lemmas.List.{append-nil, drop_all, get_or-set_other, get_o
 use Rattle.std.proofs.lemmas.List.Edits.{length-remove, get_or-remove_below, get_or-remove_above}
 use Rattle.dap_accessed.specs.declared.phase.OpenFile.{OpenFile}
 use Rattle.dap_accessed.specs.Setup.{all_rights}
+use Rattle.rec_file.specs.Files.{FileVal}
 use Rattle.dap_accessed.specs.Standing.{Files, plain_shape, new_file, with_file, name_at}
 use Rattle.dap_accessed.proofs.ForCallers.{length-with}
 use Rattle.dap_accessed.specs.Sessions.{moved_up}
-use Rattle.dap_shared.specs.Sharing.{has_alone, are_apart}
+use Rattle.dap_shared.specs.Sharing.{has_alone, has_made, is_fewer, are_apart}
 use Rattle.dap_shared.specs.Keeping.{AreApart, entry_at}
-use Rattle.dap_shared.proofs.Changes.{may_write, Moved, keeps, closes, writes, opens, makes, removes, erases}
+use Rattle.dap_shared.proofs.Changes.{may_write, Moved, keeps, closes, writes, opens, makes, replaces, removes, erases}
 
 -- ---- Two that are open.
 
@@ -75,11 +77,30 @@ still-apart r one two a b e =
 -- ---- What one link does, and what another has open.
 
 -- what was removed, by the lengths of the tables
-abbrev pub gone : (before after : Files) → Option OpenFile → Option OpenFile
-gone before after held = if nat_lt (length after) (length before) then held else None
+abbrev pub gone : (before after : Files) → (held new asks : Option OpenFile) → Option OpenFile
+gone before after held new asks = if is_fewer (has_made held new) before after then option_or held asks else None
 
-pub none-gone : (before after : Files) (held : Option OpenFile) → length before ≤ length after → gone before after held ≡ None
-none-gone before after held le = ap (λ b. if b then held else None) (le-ltb (length after) (length before) le)
+pub none-gone : (before after : Files) (held new asks : Option OpenFile) → is_fewer (has_made held new) before after ≡ false → gone before after held new asks ≡ None
+none-gone before after held new asks e = ap (λ b. if b then option_or held asks else None) e
+
+-- where none is made, as many files
+as-many : (made : Bool) (before after : Files) → made ≡ false → length before ≤ length after → is_fewer made before after ≡ false
+as-many made before after e le = ap (λ m. if m then nat_le (length after) (length before) else nat_lt (length after) (length before)) e ∙ le-ltb (length after) (length before) le
+
+longer : (made : Bool) (before after : Files) → length before < length after → is_fewer made before after ≡ false
+longer true before after lt = grind (arith, nat_tests, lt)
+longer false before after lt = grind (arith, nat_tests, lt)
+
+none-made : (held : Option OpenFile) → has_made held None ≡ false
+none-made None = refl
+none-made (Some o) = refl
+
+same-made : (held : Option OpenFile) → has_made held held ≡ false
+same-made None = refl
+same-made (Some o) = refl
+
+pub stays-none : (files : Files) (held asks : Option OpenFile) → gone files files held None asks ≡ None
+stays-none files held asks = none-gone files files held None asks (as-many (has_made held None) files files (none-made held) (omega arith))
 
 index-of : (o r : OpenFile) → Some o ≡ Some r → o.at ≡ r.at
 index-of o r e = let same : o ≡ r = cc in ap (λ (x : OpenFile). x.at) same
@@ -117,44 +138,81 @@ module _ (before : Files) (asks : Option OpenFile) (p : OpenFile) (there : p.at 
             }
       ]
 
-  is-gone : (o : OpenFile) → o.at < length before → gone before (remove before o.at) (Some o) ≡ Some o
-  is-gone o w =
-      let n = length-remove before o.at w in
-      ap (λ b. if b then Some o else None) (lt-ltb (length (remove before o.at)) (length before) (omega (arith, n)))
+  shorter : (o : OpenFile) → o.at < length before → nat_lt (length (remove before o.at)) (length before) ≡ true
+  shorter o w = let n = length-remove before o.at w in lt-ltb (length (remove before o.at)) (length before) (omega (arith, n))
+
+  is-gone : (o : OpenFile) → o.at < length before → gone before (remove before o.at) (Some o) None asks ≡ Some o
+  is-gone o w = ap (λ b. if b then Some o else None) (shorter o w)
+
+  is-erased : (o : OpenFile) → o.at < length before → asks ≡ Some o → gone before (remove before o.at) None None asks ≡ Some o
+  is-erased o w asked = ap (λ b. if b then asks else None) (shorter o w) ∙ asked
+
+  -- one more stands where one was removed
+  replaced-many : (r : OpenFile) (entry : List ℕ × FileVal) → r.at < length before → length (remove before r.at ++ entry ∷ []) ≡ length before
+  replaced-many r entry w =
+      let n = length-remove before r.at w in let m = length-append (remove before r.at) (entry ∷ []) in omega (arith, n, m, w)
+
+  is-replaced : (r : OpenFile) (entry : List ℕ × FileVal) (o : OpenFile) → r.at < length before → o.is_new ≡ true → asks ≡ Some r → gone before (remove before r.at ++ entry ∷ []) None (Some o) asks ≡ Some r
+  is-replaced r entry o w new asked =
+      let after = remove before r.at ++ entry ∷ [] in
+      ap (λ m. if (if m then nat_le (length after) (length before) else nat_lt (length after) (length before)) then asks else None) new
+      ∙ ap (λ n. if nat_le n (length before) then asks else None) (replaced-many r entry w)
+      ∙ ap (λ b. if b then asks else None) (le-self (length before)) ∙ asked
+    where
+      le-self : (n : ℕ) → nat_le n n ≡ true
+      le-self n = grind (arith, nat_tests)
+
+  -- and one more is made after all that are left
+  one-more : (r : OpenFile) (entry : List ℕ × FileVal) (o : OpenFile) → o.at ≡ length (remove before r.at) → Aside before (remove before r.at) None (Some r) p
+      → Aside before (remove before r.at ++ entry ∷ []) (Some o) (Some r) p
+  one-more r entry o at a =
+      let q = shifted (Some r) p in
+      let m = length-append (remove before r.at) (entry ∷ []) in
+      let w = a.within in
+      record {
+        within = omega (arith, m, w);
+        same = get_or_append_left (remove before r.at) (entry ∷ []) ([], new_file plain_shape) q.at w ∙ a.same;
+        apart = apart-by o q (λ e. absurd (omega (arith, e, at, w)));
+        elsewhere = a.elsewhere;
+      }
 
   pub aside : (held : Option OpenFile) (after : Files) (new : Option OpenFile) → Moved before asks held after new → IfSome held (λ o. o.at < length before) → AreApart held (Some p)
-      → Aside before after new (gone before after (option_or held asks)) p
+      → Aside before after new (gone before after held new asks) p
   aside held _ _ (keeps _) w a =
-      subst (λ (r : Option OpenFile). Aside before before held r p) (sym (none-gone before before (option_or held asks) (omega arith))) (record { within = there; same = refl; apart = a; elsewhere = λ r e. cc })
+      subst (λ (r : Option OpenFile). Aside before before held r p) (sym (none-gone before before held held asks (as-many (has_made held held) before before (same-made held) (omega arith)))) (record { within = there; same = refl; apart = a; elsewhere = λ r e. cc })
   aside held _ _ (closes _) w a =
-      subst (λ (r : Option OpenFile). Aside before before None r p) (sym (none-gone before before (option_or held asks) (omega arith))) (record { within = there; same = refl; apart = tt; elsewhere = λ r e. cc })
+      subst (λ (r : Option OpenFile). Aside before before None r p) (sym (stays-none before held asks)) (record { within = there; same = refl; apart = tt; elsewhere = λ r e. cc })
   aside (Some o) _ _ (writes _ file may) w a =
       let d = differ o p (alone-writes o may) a in
       let n = length-with before o.at file in
-      subst (λ (r : Option OpenFile). Aside before (with_file o.at file before) (Some o) r p) (sym (none-gone before (with_file o.at file before) (Some o) (omega (arith, n))))
+      subst (λ (r : Option OpenFile). Aside before (with_file o.at file before) (Some o) r p) (sym (none-gone before (with_file o.at file before) (Some o) (Some o) asks (as-many false before (with_file o.at file before) refl (omega (arith, n)))))
       (record {
         within = omega (arith, n, there);
         same = get_or-set_other before o.at p.at (name_at o.at before, file) ([], new_file plain_shape) (λ e. d (sym e));
         apart = a;
         elsewhere = λ r e. cc;
       })
-  aside None _ _ (opens o lt asked) w a =
-      subst (λ (r : Option OpenFile). Aside before before (Some o) r p) (sym (none-gone before before asks (omega arith))) (record { within = there; same = refl; apart = free o asked; elsewhere = λ r e. cc })
+  aside None _ _ (opens o lt asked old) w a =
+      subst (λ (r : Option OpenFile). Aside before before (Some o) r p) (sym (none-gone before before None (Some o) asks (as-many o.is_new before before old (omega arith)))) (record { within = there; same = refl; apart = free o asked; elsewhere = λ r e. cc })
   aside None _ _ (makes entry o at) w a =
       let n = length-append before (entry ∷ []) in
-      subst (λ (r : Option OpenFile). Aside before (before ++ entry ∷ []) (Some o) r p) (sym (none-gone before (before ++ entry ∷ []) asks (omega (arith, n))))
+      subst (λ (r : Option OpenFile). Aside before (before ++ entry ∷ []) (Some o) r p) (sym (none-gone before (before ++ entry ∷ []) None (Some o) asks (longer o.is_new before (before ++ entry ∷ []) (omega (arith, n)))))
       (record {
         within = omega (arith, n, there);
         same = get_or_append_left before (entry ∷ []) ([], new_file plain_shape) p.at there;
         apart = apart-by o p (λ e. absurd (omega (arith, e, at, there)));
         elsewhere = λ r e. cc;
       })
+  aside None _ _ (replaces r entry o lt may asked new at) w a =
+      subst (λ (x : Option OpenFile). Aside before (remove before r.at ++ entry ∷ []) (Some o) x p)
+      (sym (is-replaced r entry o lt new asked))
+      (one-more r entry o at (without r lt (differ r p (alone-writes r may) (free r asked))))
   aside (Some o) _ _ (removes _ new) w a =
       subst (λ (r : Option OpenFile). Aside before (remove before o.at) None r p) (sym (is-gone o w))
       (without o w (differ o p (ap (λ b. b || may_write o.rights) new) a))
   aside None _ _ (erases o lt may asked) w a =
       subst (λ (r : Option OpenFile). Aside before (remove before o.at) None r p)
-      (sym (ap (gone before (remove before o.at)) asked ∙ is-gone o lt))
+      (sym (is-erased o lt asked))
       (without o lt (differ o p (alone-writes o may) (free o asked)))
 
 -- ---- A file that is dropped, as if a link that made it had removed it.
@@ -171,7 +229,7 @@ aside-dropped before at p there d =
     elim (cases_lt at (length before)) [
       | inl lt ↦
           let n = length-remove before at lt in
-          let gone-is : gone before (remove before at) (Some (dropped at)) ≡ Some (dropped at) =
+          let gone-is : gone before (remove before at) (Some (dropped at)) None None ≡ Some (dropped at) =
           ap (λ b. if b then Some (dropped at) else None) (lt-ltb (length (remove before at)) (length before) (omega (arith, n))) in
           subst (λ (r : Option OpenFile). Aside before (remove before at) None r p) gone-is
           (aside before None p there (λ o e. cc) (Some (dropped at)) (remove before at) None (removes (dropped at) refl) lt (apart-by (dropped at) p d))
@@ -201,7 +259,8 @@ pub own-within : (before : Files) (asks held : Option OpenFile) (after : Files) 
 own-within before asks held _ _ (keeps _) w = w
 own-within before asks held _ _ (closes _) w = tt
 own-within before asks (Some o) _ _ (writes _ file may) w = omega (arith, w, length-with before o.at file)
-own-within before asks None _ _ (opens o lt asked) w = lt
+own-within before asks None _ _ (opens o lt asked old) w = lt
 own-within before asks None _ _ (makes entry o at) w = omega (arith, at, length-append before (entry ∷ []))
+own-within before asks None _ _ (replaces r entry o lt may asked new at) w = omega (arith, at, length-append (remove before r.at) (entry ∷ []))
 own-within before asks (Some o) _ _ (removes _ new) w = tt
 own-within before asks None _ _ (erases o lt may asked) w = tt

@@ -1,10 +1,9 @@
 -- What the code does to what it keeps is what the definitions say of one item more.
 use Rattle.std.proofs.Common.{ne_eqb, ◌≢◌, ◌≡◌, ℕ, zero, suc, ◌<◌, ◌≤◌, Bool, true, false, List, [], ◌∷◌, ◌++◌, length, map, Option, Some, None, refl, ap, sym, subst, ◌∙◌, arith}
-use Rattle.std.specs.Prelude.{IfSome, nat_lt, if◌then◌else◌, not, ◌==◌, ◌&&◌, ◌||◌, get_or, set, option_map, replicate}
+use Rattle.std.specs.Prelude.{IfSome, if◌then◌else◌, not, ◌==◌, ◌&&◌, ◌||◌, get_or, set, option_map, replicate}
 use Rattle.std.specs.List.{list_any, remove}
 use Rattle.std.specs.Option.{option_or}
 use Rattle.std.specs.Global.{Vec}
-use Rattle.std.proofs.lemmas.Bool.{le-ltb}
 use Rattle.std.proofs.lemmas.List.{get_or-set_same, map-set, length-map, length-replicate, length-set}
 use Rattle.std.proofs.Math.ListN.{get_or-map}
 use Rattle.dap_accessed.specs.declared.setup.ServerSetup.{ServerSetup}
@@ -32,16 +31,16 @@ use Rattle.dap_accessed.specs.Present.{Present, present_of, phase_of, phase_at, 
 use Rattle.dap_accessed.specs.Served.{AllAtMost, AreAnswers}
 use Rattle.dap_accessed.specs.Sessions.{SessionValue, asked_in, with_files, moved_up, session_with, open_at, phase_moved_up, session_of}
 use Rattle.dap_accessed.proofs.ForCallers.{access-keeps}
-use Rattle.dap_shared.specs.Sharing.{barred_by, bars, file_locked, is_file, open_in, state_moved_up, is_locked, asks_to_open}
+use Rattle.dap_shared.specs.Sharing.{barred_by, bars, file_locked, has_made, is_fewer, is_file, open_in, state_moved_up, is_locked, asks_to_open}
 use Rattle.dap_shared.specs.Nodes.{Exchange, Node, Event, Serves, Begins, Gives, GivesRecord, Drops, IsSilentOn, new_exchange, no_exchange, new_node, exchange_at, exchange_of, end_at, before_files, open_on, open_beside, more_beside, answers_beside, begun_moved_up, exchange_moved_up, exchange_without, removed_by, is_open, without_file, setup_on, setup_with, after_event, after_all, asked_on, is_locked_out, locks_out, node_after}
 use Rattle.dap_shared.specs.Shared.{SharedValue, SharedAfter, SharedBegins, SharedDrops, SharedGiven, SharedServes, is_held, session_of_exchange, no_session, session_without, shared_of}
 use Rattle.dap_shared.specs.Keeping.{AreOf}
 use Rattle.dap_shared.specs.Inner.Beside.{is_barred, session_moved_up, gone_by, IsSilentBeside, MovesBeside}
 use Rattle.dap_shared.specs.Inner.Beside as beside
 use Rattle.dap_shared.specs.Inner.Held.{IsSilentAmong, session_at}
-use Rattle.dap_shared.proofs.Events.{IsShared, IsSteadyExchange, history-shares, one-new}
+use Rattle.dap_shared.proofs.Events.{IsShared, IsSteadyExchange, history-shares, one-new, served-begun}
 use Rattle.dap_shared.proofs.Holders.{locked-by-all}
-use Rattle.dap_shared.proofs.Shares.{dropped}
+use Rattle.dap_shared.proofs.Shares.{dropped, gone, stays-none}
 use Rattle.dap_shared.proofs.PutBack.{map-over}
 
 -- ---- A file was removed: the others move up.
@@ -324,11 +323,14 @@ module _ (own : ServerSetup) (node : Node) (link : ℕ) (item : Item) (h : IsSha
       let d = after in
       let r = removed_by asked before d in
       let asks = asked_by session node.files item in
-      let g = gone_by asks node.files files session.phase in
+      let g = gone_by asks node.files files session.phase s.phase in
+      let later : open_at s.phase ≡ open_in d.standing.state =
+      ap (λ (t : SessionValue). open_at t.phase) left.same_session ∙ phase-open own.full d.standing d.begun (served-begun own node link item h) in
       let same : r ≡ g =
-      ap (λ (x : Option OpenFile). if nat_lt (length d.standing.scene.files) (length node.files) then option_or x asked else None) (sym (phase-open own.full before.standing before.begun (h.steady link).begun))
-      ∙ ap (λ (x : Option OpenFile). gone_by x node.files d.standing.scene.files session.phase) (sym (phase-asks own.full its node.files before.standing before.begun item (h.steady link).begun))
-      ∙ ap (λ (l : Files). gone_by asks node.files l session.phase) (sym left.same_files) in
+      ap (λ (x : Option OpenFile). gone node.files d.standing.scene.files x (open_in d.standing.state) asked) (sym (phase-open own.full before.standing before.begun (h.steady link).begun))
+      ∙ ap (λ (x : Option OpenFile). gone node.files d.standing.scene.files (open_at session.phase) x asked) (sym later)
+      ∙ ap (λ (x : Option OpenFile). gone_by x node.files d.standing.scene.files session.phase s.phase) (sym (phase-asks own.full its node.files before.standing before.begun item (h.steady link).begun))
+      ∙ ap (λ (l : Files). gone_by asks node.files l session.phase s.phase) (sym left.same_files) in
       ap (value d.standing.scene.files)
       (map-set (session_of_exchange own d.standing.scene.files) (map (exchange_moved_up r) node.exchanges) link (exchange_of most d)
       ∙ ap (λ (l : List SessionValue). set l link (session_of (present_of its d))) (exchanges-moved own node.files d.standing.scene.files r node.exchanges)
@@ -372,7 +374,7 @@ module _ (old : SharedValue) (link : ℕ) (item : Item) (files : Files) (rest : 
   same-links : length (set rest link s) ≡ length old.sessions
   same-links =
       length-set rest link s ∙ ap (λ (l : List SessionValue). length l) moves.moved
-      ∙ length-map (set old.sessions link (no_session old.setup)) (session_moved_up (gone_by (asked_by (session_at old.setup link old.sessions) old.files item) old.files files (session_at old.setup link old.sessions).phase))
+      ∙ length-map (set old.sessions link (no_session old.setup)) (session_moved_up (gone_by (asked_by (session_at old.setup link old.sessions) old.files item) old.files files (session_at old.setup link old.sessions).phase s.phase))
       ∙ length-set old.sessions link (no_session old.setup)
 
   module _ (first : Files) (events : List Event) (h : SharedAfter first events old) where
@@ -431,9 +433,12 @@ all-same : (l : List SessionValue) → l ≡ map (session_moved_up None) l
 all-same [] = refl
 all-same (s ∷ l) = ap (λ (k : List SessionValue). s ∷ k) (all-same l)
 
-pub unmoved : (asked : Option OpenFile) (files : Files) (phase : Phase) (others : List SessionValue) → others ≡ map (session_moved_up (gone_by asked files files phase)) others
-unmoved asked files phase others =
-    all-same others ∙ ap (λ (b : Bool). map (session_moved_up (if b then option_or (open_at phase) asked else None)) others) (sym (le-ltb (length files) (length files) (omega arith)))
+-- a refused Access opens nothing
+pub unmoved : (asked : Option OpenFile) (files : Files) (phase later : Phase) (others : List SessionValue) → open_at later ≡ None → others ≡ map (session_moved_up (gone_by asked files files phase later)) others
+unmoved asked files phase later others closed =
+    all-same others
+    ∙ ap (λ (r : Option OpenFile). map (session_moved_up r) others)
+    (sym (ap (λ (x : Option OpenFile). if is_fewer (has_made (open_at phase) x) files files then option_or (open_at phase) asked else None) closed ∙ stays-none files (open_at phase) asked))
 
 -- ---- A link begins, and files are given.
 

@@ -1,7 +1,7 @@
 -- A node: one table of files, and links of which each has an exchange. One item of one link is served after another.
 -- Each does what it would do at a server of one link in the state of its link, before the files as they then are; but
 -- an Access to a file that is locked is refused.
-use Rattle.std.specs.Prelude.{◌≡◌, ℕ, Bool, true, not, ◌&&◌, ◌==◌, nat_lt, if◌then◌else◌, List, [], ◌∷◌, ◌++◌, length, map, replicate, get_or, set, Option, Some, None, option_map}
+use Rattle.std.specs.Prelude.{◌≡◌, ℕ, Bool, true, not, ◌&&◌, ◌==◌, if◌then◌else◌, List, [], ◌∷◌, ◌++◌, map, replicate, get_or, set, Option, Some, None, option_map}
 use Rattle.std.specs.List.{list_any, remove}
 use Rattle.std.specs.Option.{option_or}
 use Rattle.dap_accessed.specs.declared.asked.Asked.{Asked}
@@ -21,7 +21,7 @@ use Rattle.dap_accessed.specs.Accesses.{refuse_access}
 use Rattle.dap_accessed.specs.Effects.{Begun, Does}
 use Rattle.dap_accessed.specs.Groups.{GroupedItems, answers_in, answers_of, next_group, after_item}
 use Rattle.dap_accessed.specs.Adding.{with_new_file}
-use Rattle.dap_shared.specs.Sharing.{file_locked, open_in, asks_to_open, barred_by, is_file, is_locked, state_moved_up}
+use Rattle.dap_shared.specs.Sharing.{file_locked, has_made, is_fewer, open_in, asks_to_open, barred_by, is_file, is_locked, state_moved_up}
 
 -- an exchange: the state of a server of one link, but for the files
 pub record Exchange : Type 0 where
@@ -116,11 +116,12 @@ exchange_moved_up (Some removed) exchange = exchange_without removed.at exchange
 -- the file that an item removed: its link had it open, or asked for it
 abbrev pub removed_by : (asked : Option OpenFile) → (before after : GroupedItems) → Option OpenFile
 removed_by asked before after =
-    if nat_lt (length after.standing.scene.files) (length before.standing.scene.files) then option_or (open_in before.standing.state) asked else None
+    let made = has_made (open_in before.standing.state) (open_in after.standing.state) in
+    if is_fewer made before.standing.scene.files after.standing.scene.files then option_or (open_in before.standing.state) asked else None
 
 -- ---- Which link locks a file.
 
--- what an item asks to open on a link, or to erase
+-- what an item asks to open on a link, to replace or to erase
 abbrev pub asked_on : (own : ServerSetup) → (link : ℕ) → Node → Item → Option OpenFile
 asked_on own link node item = asks_to_open (setup_on own link node) node.files (exchange_at link node).state item
 
@@ -173,7 +174,7 @@ after_event own node (Serves link item) =
     let c = end_at link node in
     after_more (exchange_at link node).most link (asked_on own link node item) c (more_beside (setup_on own link node) (open_beside link node.exchanges) c item) node.exchanges
 after_event own node (Begins link most) = record node { exchanges = set node.exchanges link (new_exchange most) }
-after_event own node (Gives name asked) = record node { files = with_new_file name asked node.files }
+after_event own node (Gives name asked) = record node { files = with_new_file own.names name asked node.files }
 after_event own node (GivesRecord at number body) = record node { files = with_record_at at number body node.files }
 after_event own node (Drops at) = if is_open at node then node else without_file at node
 

@@ -12,7 +12,9 @@ use Rattle.dap_accessed.specs.declared.setup.Names.{Names}
 use Rattle.dap_accessed.specs.declared.served.Served.{Served}
 use Rattle.dap_accessed.specs.declared.fault.AddFault.{AddFault}
 use Rattle.dap_accessed.specs.declared.fault.AddFault.TheVariants as fault
-use Rattle.dap_accessed.specs.Standing.{Files, file_at, index_by}
+use Rattle.dap_accessed.specs.Standing.{Files, file_at}
+use Rattle.dap_accessed.specs.Naming.{index_by, number_given}
+use Rattle.dap_accessed.specs.Adding.{MayGive}
 use Rattle.dap_accessed.specs.Setup.{all_rights}
 use Rattle.dap_accessed.specs.Storing.{StoreRefused}
 use Rattle.dap_accessed.specs.Present.{present_of}
@@ -102,8 +104,8 @@ pub record SharedGiven (event : Event) (old new : SharedValue) : Type 0 where
 
 -- why a file isn't added, the first reason in this order
 abbrev pub NotAdded : (names : Names) → Files → (name : List ℕ) → AddFault → Type 0
-NotAdded names files name fault.FileExists = index_by names name files ≡ None → ⊥
-NotAdded names files name fault.NoMemory = index_by names name files ≡ None
+NotAdded names files name fault.FileExists = number_given names name files ≡ None
+NotAdded names files name fault.NoMemory = MayGive names name files
 NotAdded names files name _ = ⊥
 
 -- a file has this name, as the node compares names, and of its index this is true

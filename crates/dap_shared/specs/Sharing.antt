@@ -1,6 +1,6 @@
 -- Who may open a file while other links have it open. The rule is a choice of this implementation, in the manner of RMS
 -- where SHR is left out: links that only read share a file, and one that may change it, or made it, has it alone.
-use Rattle.std.specs.Prelude.{ℕ, Bool, false, ◌||◌, ◌&&◌, ◌==◌, List, Option, Some, None}
+use Rattle.std.specs.Prelude.{ℕ, Bool, false, ◌||◌, ◌&&◌, ◌==◌, nat_le, nat_lt, if◌then◌else◌, List, length, Option, Some, None}
 use Rattle.std.specs.List.{list_any}
 use Rattle.dap_msg.specs.declared.message.Message.TheVariants.{Access}
 use Rattle.dap_msg.specs.declared.items.Item.{Item}
@@ -37,7 +37,7 @@ abbrev pub is_file : (at : ℕ) → Option OpenFile → Bool
 is_file at None = false
 is_file at (Some opened) = opened.at == at
 
--- what an item asks to open, or to erase: only an Access in Ready does
+-- what an item asks to open, to replace or to erase: only an Access in Ready does
 abbrev pub asks_to_open : (own : ServerSetup) → Files → ServerState → Item → Option OpenFile
 asks_to_open own files Ready (Whole (Access access)) = would_open own files access
 asks_to_open own files state item = None
@@ -58,6 +58,15 @@ barred_by None held = false
 barred_by (Some asked) held = bars asked held
 
 -- ---- A file that is removed: those after it move up.
+
+-- an item made a file: its link has a new one open, and had none
+abbrev pub has_made : (before after : Option OpenFile) → Bool
+has_made None (Some opened) = opened.is_new
+has_made before after = false
+
+-- a file is gone: there are fewer, or no more although one was made
+abbrev pub is_fewer : (made : Bool) → (before after : Files) → Bool
+is_fewer made before after = if made then nat_le (length after) (length before) else nat_lt (length after) (length before)
 
 -- the phase of another link then
 abbrev pub state_moved_up : (removed : ℕ) → ServerState → ServerState

@@ -3,9 +3,10 @@
 ghost use Rattle.std.specs.Prelude.{◌≡◌, ◌⊎◌, ◌≤◌, ◌<◌, ℕ, List, [], length, IfOk, IfErr, IsTrue, OnOk, OnErr, Some, None, true, false, set, replicate, IfSome};
 ghost use Rattle.dap_msg.specs.BothEnds.{min_buffer};
 ghost use Rattle.dap_accessed.specs.Asked.{IsAsked};
-ghost use Rattle.dap_accessed.specs.Adding.{MayStore, with_new_file};
+ghost use Rattle.dap_accessed.specs.Adding.{MayGive, MayStore, with_new_file};
 ghost use Rattle.dap_accessed.specs.Setup.{IsServerSetup, plain_setup};
-ghost use Rattle.dap_accessed.specs.Standing.{Files, file_at, index_by};
+ghost use Rattle.dap_accessed.specs.Standing.{Files, file_at};
+ghost use Rattle.dap_accessed.specs.Naming.{index_by};
 ghost use Rattle.dap_shared.specs.Nodes.{Event, Gives, GivesRecord, exchange_at, node_after, with_record_at};
 ghost use Rattle.dap_shared.specs.Noted.{IsLowest, NotedServed};
 ghost use Rattle.dap_shared.specs.Inner.Lower.{IsLower};
@@ -203,11 +204,12 @@ impl NotedFiles {
     pub fn add(&mut self, name: &[u8], asked: Asked) -> Result<(), AddFault>
         requires { IsAsked asked }
         ensures may { OnOk result
-            (index_by self.old.shared.setup.names name.now self.old.shared.files ≡ None) }
+            (MayGive self.old.shared.setup.names name.now self.old.shared.files) }
         ensures given { OnOk result
             (SharedGiven (Gives name.now asked) self.old.shared self.new.shared) }
         ensures files { OnOk result (self.new.shared.files
-            ≡ with_new_file name.now asked self.old.shared.files) }
+            ≡ with_new_file self.old.shared.setup.names name.now asked
+            self.old.shared.files) }
         ensures rest { self.new ≡ record self.old { shared = self.new.shared } }
         ensures refused { IfErr result
             (NotAdded self.old.shared.setup.names self.old.shared.files name.now) }

@@ -1,16 +1,18 @@
 //! One table of files, and what is kept of each link before it.
 
-ghost use Rattle.std.specs.Prelude.{◌≡◌, ◌≤◌, ◌<◌, ◌∷◌, ◌++◌, ℕ, List, [], length, map, nat_lt, if◌then◌else◌, IfOk, IfErr, IsOk, IsTrue, OnOk, OnErr, Some, None, replicate};
+ghost use Rattle.std.specs.Prelude.{◌≡◌, ◌≤◌, ◌<◌, ◌∷◌, ◌++◌, ℕ, List, [], length, map, nat_le, nat_lt, if◌then◌else◌, IfOk, IfErr, IsOk, IsTrue, OnOk, OnErr, Some, None, replicate};
 ghost use Rattle.std.specs.Option.{option_or};
 ghost use Rattle.dap_msg.specs.BothEnds.{min_buffer};
 ghost use Rattle.dap_msg.specs.Decoding.{IsSpelled};
 ghost use Rattle.dap_msg.specs.declared.items.Item.TheVariants.{Whole};
 ghost use Rattle.dap_msg.specs.declared.message.Message.{Message as TheMessage};
 ghost use Rattle.dap_accessed.specs.Asked.{IsAsked};
-ghost use Rattle.dap_accessed.specs.Standing.{Files, file_at, index_by};
-ghost use Rattle.dap_accessed.specs.Adding.{MayStore, with_new_file};
+ghost use Rattle.dap_accessed.specs.Standing.{Files, file_at};
+ghost use Rattle.dap_accessed.specs.Naming.{index_by};
+ghost use Rattle.dap_accessed.specs.Adding.{MayGive, MayStore, with_new_file};
 ghost use Rattle.dap_accessed.specs.Sessions.{IsOpenIn, session_with};
 ghost use Rattle.dap_accessed.specs.Setup.{IsServerSetup, plain_setup};
+ghost use Rattle.dap_shared.specs.Sharing.{has_made};
 ghost use Rattle.dap_shared.specs.Nodes.{Event, FilesAfter, Gives, GivesRecord, IsSilentOn, exchange_at, is_locked_out, locks_out, node_after, with_record_at};
 ghost use Rattle.dap_shared.specs.Shared.{AtFile, NotAdded, NotRemoved, RecordNotAdded, SharedAfter, SharedBegins, SharedDrops, SharedGiven, SharedServes, rights_on, session_without};
 ghost use Rattle.dap_shared.specs.Inner.Beside.{IsSilentBetween, MovesAmong, session_moved_up};
@@ -89,16 +91,34 @@ fn close_up(sessions: &mut [Session], gone: Option<OpenFile>)
     }
 }
 
-/// Returns the file that was open, or else asked for, where it is gone: there are fewer files.
+/// Returns whether an item made a file: its link has a new one open, and had none.
+fn has_made(held: Option<OpenFile>, now: Option<OpenFile>) -> bool
+    ensures { result ≡ has_made held now }
+{
+    match (held, now) {
+        (None, Some(opened)) => opened.is_new,
+        _ => false,
+    }
+}
+
+/// Returns the file that was open, or else asked for, where it is gone: there are fewer files, or no more although one
+/// was made.
 fn gone(
+    made: bool,
     before: usize,
     after: usize,
     held: Option<OpenFile>,
     asked: Option<OpenFile>,
 ) -> Option<OpenFile>
-    ensures { result ≡ (if nat_lt after before then option_or held asked else None) }
+    ensures { result ≡ (if (if made then nat_le after before else nat_lt after before)
+        then option_or held asked else None) }
 {
-    if after < before { held.or(asked) } else { None }
+    let is_fewer = if made {
+        after <= before
+    } else {
+        after < before
+    };
+    if is_fewer { held.or(asked) } else { None }
 }
 
 /// Serves an item of a link, beside the sessions of the links before it and after it.
@@ -128,7 +148,8 @@ fn serve_beside(
     let count = files.count();
     let held = session.open_file();
     let served = session.serve_item(files, item, next)?;
-    let gone = gone(count, files.count(), held, asked);
+    let made = has_made(held, session.open_file());
+    let gone = gone(made, count, files.count(), held, asked);
     close_up(before, gone);
     close_up(after, gone);
     Ok(served)
@@ -235,7 +256,7 @@ impl SharedFiles {
 
     /// Serves what was read already of a link: the message or fault that `item_at` answered, and the offset after it
     /// (DAP 5.6.0, message sequences). An Access to a file that another link has open is refused as locked, where one
-    /// of the two would change or erase the file, or has made it.
+    /// of the two would change, replace or erase the file, or has made it.
     ///
     /// The only refusal is [`NoMemory`]. Nothing has changed then, and the same call may be made again. A message that
     /// has no answer and stores no record takes no memory.
@@ -286,18 +307,18 @@ impl SharedFiles {
     /// Refusals in order: FileExists, NoMemory; each leaves all unchanged.
     pub fn add(&mut self, name: &[u8], asked: Asked) -> Result<(), AddFault>
         requires { IsAsked asked }
-        ensures may { OnOk result
-            (index_by self.old.setup.names name.now self.old.files ≡ None) }
+        ensures may { OnOk result (MayGive self.old.setup.names name.now self.old.files) }
         ensures given { OnOk result (SharedGiven (Gives name.now asked) self.old self.new) }
         ensures files { OnOk result
-            (self.new.files ≡ with_new_file name.now asked self.old.files) }
+            (self.new.files ≡ with_new_file self.old.setup.names name.now asked self.old.files) }
         ensures refused { IfErr result (NotAdded self.old.setup.names self.old.files name.now) }
         ensures unchanged { OnErr result (self.new ≡ self.old) }
     {
-        if self.files.find_by(self.setup.names, name).is_some() {
+        let names = self.setup.names;
+        let Some(number) = self.files.number_given(names, name) else {
             return Err(AddFault::FileExists);
-        }
-        self.files.make(self.alloc, name, asked)?;
+        };
+        self.files.make(self.alloc, names, name, number, asked)?;
         Ok(())
     }
 

@@ -1,6 +1,6 @@
 -- A line of the server is some events of a network.
 use Rattle.std.proofs.Common.{◌≡◌, ℕ, ◌+◌, ◌≤◌, arith, refl, sym, ◌∙◌, subst, ap, Bool, true, false, List, [], ◌∷◌, ◌++◌, length, append_assoc, inl, inr}
-use Rattle.std.specs.Prelude.{◌⊎◌, ◌-◌, ◌==◌, if◌then◌else◌, IfSome, IsTrue, MatchBool, MatchOption, MatchResult, Option, Some, None, Result, Ok, Err, option_map, slice_get}
+use Rattle.std.specs.Prelude.{◌⊎◌, ◌-◌, ◌==◌, if◌then◌else◌, MatchBool, MatchOption, MatchResult, Option, Some, None, Result, Ok, Err, option_map, slice_get}
 use Rattle.std.specs.List.{position}
 use Rattle.std.proofs.lemmas.Bool.{cases_eq, eq-eqb, ne_eqb}
 use Rattle.std.proofs.lemmas.List.{append-nil, map-append}
@@ -35,12 +35,12 @@ use Rattle.dap_live.specs.declared.node.Node.{Node}
 use Rattle.dap_live.specs.declared.node_orders.NodeOrder.{NodeOrder}
 use Rattle.dap_live.specs.declared.node_orders.NodeOrder.TheVariants as order
 use Rattle.dap_live.specs.declared.orders.Between.{Between}
-use Rattle.dap_live.specs.Both.{DoneOr, LeavesEnd}
-use Rattle.dap_live.specs.Node.{AddsAsked, AddsLink, AddsRecordTo, BeginsOn, DropsFile, FileNotGiven, FindsLink, GivesFile, GoesOnWith, NodeDoes, OnMeant, RefusesLink, RenewsOn, ResendsOn, Says, TakesOn, TakesPacketBy, about, before_line, is_alone, is_work_left_at, meant, node_without_file, one_link, NoLink}
+use Rattle.dap_live.specs.Both.{LeavesEnd}
+use Rattle.dap_live.specs.Node.{AddsAsked, AddsLink, AddsRecordTo, BeginsOn, DropsFile, FindsLink, GoesOnWith, NodeDoes, OnMeant, RefusesLink, RenewsOn, ResendsOn, Says, TakesOn, TakesPacketBy, about, before_line, is_alone, is_work_left_at, meant, one_link, NoLink}
 use Rattle.dap_live.specs.NodeOrders.{node_order_of}
 use Rattle.dap_live.specs.Orders.{most_beside, setup_beside}
 use Rattle.dap_transcripts.specs.Programs.{BeginsSome, BringsIn, WroteFor}
-use Rattle.dap_live.specs.Texts.{LineAnswer, add_refusal, done_said, link_refusal, locked_text, packet_text, packets_text, status_line}
+use Rattle.dap_live.specs.Texts.{LineAnswer, done_said, link_refusal, locked_text, packet_text, packets_text}
 use Rattle.nsp_link.specs.declared.fault.LinkFault.TheVariants as fault
 use Rattle.dap_msg.specs.Codes.{reasons, stscode}
 use Rattle.dap_transcripts.proofs.Lines.{done_speaks, found_within, good_asked, no_link_quiet, none_wrote, taken_speaks}

@@ -1,13 +1,14 @@
 -- What a line does to the node of a server is what happens to it.
-use Rattle.std.proofs.Common.{◌≡◌, ℕ, ◌+◌, ◌<◌, ◌≤◌, arith, refl, sym, ◌∙◌, subst, ap, Bool, true, false, List, [], ◌∷◌, ◌++◌, length, inl, inr, IsTrue}
-use Rattle.std.specs.Prelude.{◌⊎◌, ◌-◌, ◌&&◌, nat_le, IfSome, MatchBool, MatchOption, MatchResult, Option, Some, None, Result, Ok, Err, if◌then◌else◌}
+use Rattle.std.proofs.Common.{◌≡◌, ℕ, ◌+◌, ◌<◌, ◌≤◌, arith, refl, sym, ◌∙◌, subst, ap, Bool, true, false, List, [], ◌∷◌, ◌++◌, length, inl, inr}
+use Rattle.std.specs.Prelude.{◌⊎◌, ◌-◌, IfSome, MatchBool, MatchOption, MatchResult, Option, Some, None, Result, Ok, Err}
 use Rattle.std.specs.List.{position}
 use Rattle.std.proofs.lemmas.List.{map-append}
 use Rattle.dap_accessed.specs.declared.asked.Asked.{Asked}
 use Rattle.dap_accessed.specs.Asked.{IsAsked}
 use Rattle.rec_file.specs.declared.picks.Rights.{Rights}
 use Rattle.dap_accessed.specs.declared.setup.Names.{Names}
-use Rattle.dap_accessed.specs.Standing.{Files, index_by}
+use Rattle.dap_accessed.specs.Standing.{Files}
+use Rattle.dap_accessed.specs.Naming.{index_by}
 use Rattle.dap_accessed.proofs.ForCallers.{a_file_made_fully, index-within}
 use Rattle.nsp_link.specs.declared.link.Got.{Got}
 use Rattle.nsp_link.specs.declared.link.LinkSetup.{LinkSetup}
@@ -37,15 +38,15 @@ use Rattle.dap_live.specs.declared.node.Node.{Node}
 use Rattle.dap_live.specs.declared.node_orders.NodeOrder.{NodeOrder}
 use Rattle.dap_live.specs.declared.node_orders.NodeOrder.TheVariants as order
 use Rattle.dap_live.specs.declared.orders.Between.{Between}
-use Rattle.dap_live.specs.Both.{DoneOr, LeavesEnd}
-use Rattle.dap_live.specs.Node.{AddsAsked, AddsLink, AddsRecordTo, BeginsOn, NoLink, DropsFile, FileNotGiven, GivesFile, GoesOnWith, NodeDoes, OnMeant, RefusesLink, RenewsOn, ResendsOn, Says, TakesOn, TakesPacketBy, about, is_work_left_at, meant, node_without_file, one_link}
+use Rattle.dap_live.specs.Both.{LeavesEnd}
+use Rattle.dap_live.specs.Node.{AddsAsked, AddsLink, AddsRecordTo, BeginsOn, NoLink, DropsFile, GoesOnWith, NodeDoes, OnMeant, RefusesLink, RenewsOn, ResendsOn, Says, TakesOn, TakesPacketBy, about, is_work_left_at, meant, one_link}
 use Rattle.dap_live.specs.Sending.{AllAgain}
 use Rattle.dap_msg.specs.Codes.{reasons, stscode}
 use Rattle.dap_text.specs.Answers.{got_text}
 use Rattle.texts.specs.Text.{line_feed}
 use Rattle.dap_end.specs.Turns.{EndOf, TakesPacket}
 use Rattle.dap_transcripts.proofs.Speaking.{Speaks, speaks_add, speaks_after, speaks_before, speaks_both, speaks_end, speaks_files, speaks_got, speaks_hex, speaks_link, speaks_locked, speaks_no_links, speaks_none, speaks_packets, speaks_remove, speaks_status}
-use Rattle.dap_live.specs.Texts.{LineAnswer, end_refusal, add_refusal, done_said, link_refusal, locked_text, packet_text, packets_text, status_line, taken_said}
+use Rattle.dap_live.specs.Texts.{LineAnswer, end_refusal, done_said, link_refusal, locked_text, packet_text, packets_text, taken_said}
 
 -- nothing came, or the packet of this order
 abbrev pub CameBy : NodeOrder → List (List ℕ) → Type 0

@@ -12,7 +12,7 @@ use Rattle.std.proofs.lemmas.Str.Ascii.{uppercase-uppercase}
 use Rattle.file_names.specs.Folds.{after_last, ends_directory, fold, is_byte, is_dot, second_dot, stem, without_dot, without_version}
 
 -- no byte passes the test
-abbrev Free : (ℕ → Bool) → List ℕ → Type 0
+abbrev pub Free : (ℕ → Bool) → List ℕ → Type 0
 Free test w = (k d : ℕ) → k < length w → test (get_or w k d) ≡ false
 
 is_not : (b : Bool) → b ≡ false → not b ≡ true
@@ -143,7 +143,7 @@ dot_gone w is = by (position_or_len is_dot w + 1 == length w) refl
 -- ---- what counts of a name
 
 -- Nothing of it is dropped.
-record Counts (v : List ℕ) : Type 0 where
+pub record Counts (v : List ℕ) : Type 0 where
   pub directory : Free ends_directory v
   pub semicolon : Free (is_byte 0x3B) v
   pub version : without_version v ≡ v
@@ -243,7 +243,7 @@ only_up w =
     ∙ ap (λ l. if a + 1 == length w then l else u) (take-map to_ascii_uppercase a w)
     ∙ map_if (a + 1 == length w) (take a w) w
 
-fold_counts : (name : List ℕ) → Counts (fold name)
+pub fold_counts : (name : List ℕ) → Counts (fold name)
 fold_counts name =
     let c = stem_counts name in record {
       directory = free_up ends_directory directory_up (stem name) c.directory;
@@ -282,15 +282,24 @@ behind_free digits all (suc k) d less = digits_free digits all k d (omega (arith
 eq_is : (a b : ℕ) → a ≡ b → (a == b) ≡ true
 eq_is a b same = grind (arith, nat_tests)
 
--- what is before the semicolon
-before_semicolon : (v digits : List ℕ) → Free (is_byte 0x3B) v → before_first (is_byte 0x3B) (v ++ 0x3B ∷ digits) ≡ v
-before_semicolon v digits free =
+-- where the semicolon is
+pub semicolon_at : (v digits : List ℕ) → Free (is_byte 0x3B) v → position_or_len (is_byte 0x3B) (v ++ 0x3B ∷ digits) ≡ length v
+semicolon_at v digits free =
     let p = λ (x : ℕ). not (is_byte 0x3B x) in
     let all = all_before (is_byte 0x3B) v free in
     let joined : position_or_len (is_byte 0x3B) (v ++ 0x3B ∷ digits) ≡ length v + 0 =
     prefix_len-append p v (0x3B ∷ digits) ∙ ap (λ b. cond b (length v + 0) (prefix_len p v)) (eq_is (prefix_len p v) (length v) all) in
-    let here : position_or_len (is_byte 0x3B) (v ++ 0x3B ∷ digits) ≡ length v = omega (arith, joined) in
-    ap (λ m. take m (v ++ 0x3B ∷ digits)) here ∙ take-append_seam v (0x3B ∷ digits)
+    omega (arith, joined)
+
+-- what is before the semicolon
+before_semicolon : (v digits : List ℕ) → Free (is_byte 0x3B) v → before_first (is_byte 0x3B) (v ++ 0x3B ∷ digits) ≡ v
+before_semicolon v digits free =
+    ap (λ m. take m (v ++ 0x3B ∷ digits)) (semicolon_at v digits free) ∙ take-append_seam v (0x3B ∷ digits)
+
+-- a fold and digits behind it have no directory
+pub numbered_same : (name digits : List ℕ) → list_all is_ascii_digit digits ≡ true → after_last ends_directory (fold name ++ 0x3B ∷ digits) ≡ fold name ++ 0x3B ∷ digits
+numbered_same name digits all =
+    after_same ends_directory (fold name ++ 0x3B ∷ digits) (append_free ends_directory (fold name) (0x3B ∷ digits) (fold_counts name).directory (behind_free digits all))
 
 pub fold_again : (name : List ℕ) → fold (fold name) ≡ fold name
 fold_again name =
@@ -305,5 +314,5 @@ fold_with_number name digits all =
     let c = fold_counts name in
     let whole = w ++ 0x3B ∷ digits in
     let t : before_first (is_byte 0x3B) (after_last ends_directory whole) ≡ w =
-    ap (λ l. before_first (is_byte 0x3B) l) (after_same ends_directory whole (append_free ends_directory w (0x3B ∷ digits) c.directory (behind_free digits all))) ∙ before_semicolon w digits c.semicolon in
+    ap (λ l. before_first (is_byte 0x3B) l) (numbered_same name digits all) ∙ before_semicolon w digits c.semicolon in
     ap (λ l. map to_ascii_uppercase l) (ap (λ l. without_dot (without_version l)) t ∙ ap without_dot c.version ∙ c.dot) ∙ twice_up (stem name)

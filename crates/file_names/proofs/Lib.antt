@@ -1,4 +1,6 @@
 pub mod Examples
 mod Capitals
 mod FoldLemmas
+pub mod ForCallers
+mod NameLemmas
 mod VersionLemmas

@@ -1,13 +1,14 @@
 -- Which version of a file a name asks for. The rules are a choice of this implementation, in the manner of VMS, but for
 -- `;0` and `;`, which are the latest there too. From memory.
-use Rattle.std.specs.Prelude.{ℕ, ◌&&◌, ◌+◌, nat_lt, nat_le, if◌then◌else◌, List, [], ◌∷◌, length, drop, bytes_eq, Option, Some, None}
+use Rattle.std.specs.Prelude.{ℕ, ◌&&◌, ◌+◌, nat_lt, nat_le, if◌then◌else◌, List, [], ◌∷◌, ◌++◌, length, drop, bytes_eq, Option, Some, None}
+use Rattle.std.specs.Fmt.{decimal}
 use Rattle.std.specs.List.{list_all, position_or_len}
 use Rattle.std.specs.Char.{is_ascii_digit}
 use Rattle.std.specs.Str.Parse.{digits_value}
 use Rattle.std.specs.Option.{option_map_or}
 use Rattle.file_names.specs.declared.versions.Wanted.{Wanted}
 use Rattle.file_names.specs.declared.versions.Wanted.TheVariants.{Latest, Version, All, Nothing}
-use Rattle.file_names.specs.Folds.{after_last, ends_directory, is_byte, second_dot}
+use Rattle.file_names.specs.Folds.{after_last, ends_directory, fold, is_byte, second_dot}
 
 -- what follows the second dot, where that is nothing or only digits
 abbrev pub dropped_digits : List ℕ → Option (List ℕ)
@@ -42,3 +43,11 @@ asked_for text =
 -- what a name asks for: the latest, where it has no version text
 abbrev pub version_wanted : List ℕ → Wanted
 version_wanted name = option_map_or asked_for (version_part name) Latest
+
+-- the number that a name asks for, from 1; 0 where it asks for none
+abbrev pub version_number : List ℕ → ℕ
+version_number name = elim (version_wanted name) [ Latest ↦ 0 | Version n ↦ n | All ↦ 0 | Nothing ↦ 0 ]
+
+-- the name of a version: the fold of this name, `;` and the number
+abbrev pub version_name : (name : List ℕ) → (number : ℕ) → List ℕ
+version_name name number = fold name ++ 0x3B ∷ decimal number

@@ -7,5 +7,5 @@ mod laws;
 mod versions;
 
 pub use fold::{is_alike, stem};
-pub use laws::folds_find_themselves;
-pub use versions::{MAX_VERSION, Wanted, version_wanted};
+pub use laws::{folds_find_themselves, versions_find_themselves};
+pub use versions::{MAX_VERSION, Wanted, version_name, version_number, version_wanted};

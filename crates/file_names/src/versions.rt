@@ -1,14 +1,16 @@
-//! Versions, without memory.
+//! Versions: which one a name asks for, and the name of one.
 
-ghost use Rattle.std.specs.Prelude.{◌≡◌, ◌&&◌, nat_le, if◌then◌else◌, None, Some};
+ghost use Rattle.std.specs.Prelude.{◌≡◌, ◌&&◌, nat_le, if◌then◌else◌, IfOk, None, Some};
 ghost use Rattle.std.specs.Char.{is_ascii_digit};
 ghost use Rattle.std.specs.List.{list_all};
 ghost use Rattle.std.specs.Option.{option_copied};
 ghost use Rattle.std.specs.Str.Parse.{digits_value};
 ghost use Rattle.file_names.specs.Folds.{is_byte};
-ghost use Rattle.file_names.specs.Versions.{asked_for, version_in_tail, dropped_digits, max_version, numbered, version_part, version_wanted};
+ghost use Rattle.file_names.specs.Versions.{asked_for, version_in_tail, dropped_digits, max_version, numbered, version_name, version_number, version_part, version_wanted};
 
-use crate::fold::{after_directory, are_digits, before};
+use crate::fold::{after_directory, are_digits, before, stem};
+use std::alloc::{AllocError, Global};
+use texts::push_decimal;
 
 /// Which version of a file a name asks for.
 #[derive(Clone, Copy, PartialEq, Eq)]
@@ -105,4 +107,27 @@ pub fn version_wanted(name: &[u8]) -> Wanted
         Some(text) => asked_for(text),
         None => Wanted::Latest,
     }
+}
+
+/// Returns the number that a name asks for, from 1 to [`MAX_VERSION`]; 0 where it asks for none, as by `;*` and by
+/// nothing.
+pub fn version_number(name: &[u8]) -> u16
+    ensures { result ≡ version_number name.now }
+{
+    match version_wanted(name) {
+        Wanted::Version(number) => number,
+        _ => 0,
+    }
+}
+
+/// Returns the name of a version: the fold of this name, `;` and the number in decimal digits. So `data.txt;` and 3 are
+/// `DATA.TXT;3`.
+pub fn version_name(alloc: Global, name: &[u8], number: u16) -> Result<Vec<u8>, AllocError>
+    ensures { IfOk result (λ made. made.items ≡ version_name name.now number) }
+{
+    let mut made = Vec::from_slice(alloc, stem(name))?;
+    made.make_ascii_uppercase();
+    made.push(b';')?;
+    push_decimal(&mut made, number)?;
+    Ok(made)
 }

@@ -1,9 +1,11 @@
 -- The first wrong value among those of several options, one after the other.
-use Rattle.std.proofs.Common.{◌≡◌, ◌++◌, ◌∷◌, [], ℕ, List, Bool, true, false, sym, subst, refl}
-use Rattle.std.specs.Prelude.{Option, Some, None, Result, Ok, Err, IfErr, IsErrAnd, cond, nat_lt, is_none, option_and_then, ◌&&◌, ◌||◌, if◌then◌else◌}
+use Rattle.std.proofs.Common.{◌≡◌, ◌++◌, ◌∷◌, [], ℕ, List, Bool, true, false, sym, subst, refl, ap, ◌∙◌}
+use Rattle.std.specs.Prelude.{option_map, not, Option, Some, None, Result, Ok, Err, IfErr, IsErrAnd, cond, nat_lt, is_none, option_and_then, ◌&&◌, ◌||◌, if◌then◌else◌}
 use Rattle.std.specs.Option.{option_map_or}
 use Rattle.std.specs.List.{find}
 use Rattle.clap.specs.Words.{Row, Text}
+use Rattle.live_cli.specs.Words.{compared_of, has_versions}
+use Rattle.live_cli.specs.declared.words.Compared.{Compared}
 use Rattle.live_cli.specs.declared.words.Digits.{Digits}
 use Rattle.live_cli.specs.declared.words.Misspelt.{Misspelt}
 use Rattle.live_cli.specs.declared.words.Role.{Role}
@@ -73,3 +75,59 @@ pub links_wrong : (o : Option ℕ) (links : ℕ) (l r : Bool) (a b c : Text × D
 links_wrong None links l r a b c is many some = absurd cc
 links_wrong (Some n) links l r a b c is many some =
     let same : links ≡ n = cc in first_of_two (nat_lt 1 n) l r b c (subst (λ (k : ℕ). nat_lt 1 k ≡ true) same many) some
+
+-- ---- Names, and how many versions are kept.
+
+-- what a word says, or that it says nothing
+abbrev said : Text → Option ℕ
+said text = option_map (λ compared. 0) (compared_of text)
+
+is_said : (word : Option Text) (compared : Compared) → Some compared ≡ option_and_then compared_of word → is_none (option_and_then said word) ≡ false
+is_said None compared is = absurd cc
+is_said (Some text) compared is = let same : compared_of text ≡ Some compared = sym is in rw same refl
+
+is_unsaid : (word : Option Text) → None ≡ option_and_then compared_of word → is_none (option_and_then said word) ≡ true
+is_unsaid None is = refl
+is_unsaid (Some text) is = let same : compared_of text ≡ None = sym is in rw same refl
+
+-- the value of `keep`, the word of `names`, and whether `keep` is in the words where names have no versions
+abbrev faults : (keep : Option ℕ) → (word : Option Text) → (given : Bool) → (a b c : Text × Digits) → Option (Text × Digits)
+faults keep word given a b c =
+    cond (is_none keep) (Some a) (cond (is_none (option_and_then said word)) (Some b) (cond (not (option_map_or has_versions (option_and_then compared_of word) false) && given) (Some c) None))
+
+by_both : (none unsaid : Bool) (keep : Option ℕ) (word : Option Text) (given : Bool) (a b c : Text × Digits) → is_none keep ≡ none → is_none (option_and_then said word) ≡ unsaid
+    → faults keep word given a b c ≡ cond none (Some a) (cond unsaid (Some b) (cond (not (option_map_or has_versions (option_and_then compared_of word) false) && given) (Some c) None))
+by_both none unsaid keep word given a b c e f =
+    let rest : Option (Text × Digits) = cond (not (option_map_or has_versions (option_and_then compared_of word) false) && given) (Some c) None in
+    ap (λ (x : Bool). cond x (Some a) (cond (is_none (option_and_then said word)) (Some b) rest)) e ∙ ap (λ (x : Bool). cond none (Some a) (cond x (Some b) rest)) f
+
+in_vain : (versions given : Bool) → (given && not versions) ≡ (not versions && given)
+in_vain true true = refl
+in_vain true false = refl
+in_vain false true = refl
+in_vain false false = refl
+
+kept_by : (word : Option Text) (compared : Compared) (given : Bool) → Some compared ≡ option_and_then compared_of word → (not (option_map_or has_versions (option_and_then compared_of word) false) && given) ≡ (given && not (has_versions compared))
+kept_by word compared given is = subst (λ (o : Option Compared). (not (option_map_or has_versions o false) && given) ≡ (given && not (has_versions compared))) is (sym (in_vain (has_versions compared) given))
+
+is_kept : (keep : ℕ) (o : Option ℕ) → Some keep ≡ o → is_none o ≡ false
+is_kept keep None is = absurd cc
+is_kept keep (Some n) is = refl
+
+pub names_right : (o : Option ℕ) (keep : ℕ) (word : Option Text) (compared : Compared) (given : Bool) (a b c : Text × Digits) → Some keep ≡ o → Some compared ≡ option_and_then compared_of word → (given && not (has_versions compared)) ≡ false → faults o word given a b c ≡ None
+names_right o keep word compared given a b c one two none =
+    by_both false false o word given a b c (is_kept keep o one) (is_said word compared two)
+    ∙ subst (λ (x : Bool). cond x (Some c) None ≡ None) (sym (kept_by word compared given two ∙ none)) refl
+
+pub names_wrong : (o : Option ℕ) (keep : ℕ) (word : Option Text) (given : Bool) (a b c : Text × Digits) → Some keep ≡ o → None ≡ option_and_then compared_of word → faults o word given a b c ≡ Some b
+names_wrong o keep word given a b c one two = by_both false true o word given a b c (is_kept keep o one) (is_unsaid word two)
+
+pub keep_wrong : (o : Option ℕ) (keep : ℕ) (word : Option Text) (compared : Compared) (given : Bool) (a b c : Text × Digits) → Some keep ≡ o → Some compared ≡ option_and_then compared_of word → given ≡ true → has_versions compared ≡ false → faults o word given a b c ≡ Some c
+keep_wrong o keep word compared given a b c one two some plain =
+    by_both false false o word given a b c (is_kept keep o one) (is_said word compared two)
+    ∙ subst (λ (x : Bool). cond x (Some c) None ≡ Some c) (sym (kept_by word compared given two ∙ both given (has_versions compared) some plain)) refl
+  where
+    both : (g v : Bool) → g ≡ true → v ≡ false → (g && not v) ≡ true
+    both true false e f = refl
+    both true true e f = absurd cc
+    both false v e f = absurd cc

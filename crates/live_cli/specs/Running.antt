@@ -5,8 +5,6 @@ use Rattle.std.specs.Io.KnownBytes.{Appends, Keeps}
 use Rattle.nsp_link.specs.declared.link.LinkSetup.{LinkSetup}
 use Rattle.dap_msg.specs.BothEnds.{plain_identity}
 use Rattle.dap_msg.specs.declared.message.Configuration.{Configuration}
-use Rattle.dap_accessed.specs.declared.setup.Names.{Names}
-use Rattle.dap_accessed.specs.declared.setup.Names.TheVariants.{Exact, Folded}
 use Rattle.dap_accessed.specs.declared.setup.ServerSetup.{ServerSetup}
 use Rattle.dap_accessed.specs.Setup.{all_rights}
 use Rattle.nsp_link.specs.Limits.{max_limit}
@@ -39,13 +37,9 @@ AnswersAll {E} answered waiting first input left written holds status =
 abbrev pub identity_of : Options → Configuration
 identity_of o = record (plain_identity o.buffer) { ostype = o.ostype; filesys = o.filesys; syscap = o.syscap }
 
--- how names are compared
-abbrev pub names_by : (folded : Bool) → Names
-names_by folded = if folded then Folded else Exact
-
 -- how the server is set up: an Access may ask for every right, unless its link has fewer
 abbrev pub server_of : Options → ServerSetup
-server_of o = record { identity = identity_of o; names = names_by o.folded; most = all_rights; full = true }
+server_of o = record { identity = identity_of o; names = o.names; most = all_rights; full = true }
 
 -- a new server without files answers: its only link is there; or it has room for several, and none is
 abbrev pub ServesLines : Options → List ℕ → (left written holds : Option (List ℕ)) → ℕ → Type 0

@@ -1,5 +1,5 @@
 -- The command line of `daplive`.
-use Rattle.std.specs.Prelude.{ℕ, ◌-◌, ◌^◌, Bool, true, false, ◌||◌, ◌&&◌, nat_le, nat_lt, List, [], ◌∷◌, ◌++◌, length, replicate, codes, bytes_eq, fold, if◌then◌else◌, pos, max, slice_get, Option, Some, None, option_map, option_and_then}
+use Rattle.std.specs.Prelude.{ℕ, ◌-◌, ◌^◌, Bool, true, false, not, ◌||◌, ◌&&◌, nat_le, nat_lt, List, [], ◌∷◌, ◌++◌, length, replicate, codes, bytes_eq, fold, if◌then◌else◌, pos, max, slice_get, Option, Some, None, option_map, option_and_then}
 use Rattle.std.specs.Fmt.{decimal}
 use Rattle.std.specs.Int.{from_be_bytes, w128}
 use Rattle.std.specs.Result.{result_ok}
@@ -16,6 +16,11 @@ use Rattle.nsp_link.specs.Limits.{max_segment, max_window}
 use Rattle.texts.specs.Text.{word_text}
 use Rattle.texts.specs.Words.{decimal_of, short}
 use Rattle.dap_live.specs.Orders.{address_of}
+use Rattle.file_names.specs.Versions.{max_version}
+use Rattle.dap_accessed.specs.declared.setup.Names.{Names}
+use Rattle.dap_accessed.specs.declared.setup.Names.TheVariants.{Exact, Folded, Versions}
+use Rattle.live_cli.specs.declared.words.Compared.{Compared}
+use Rattle.live_cli.specs.declared.words.Compared.TheVariants.{ByBytes, ByFolds, ByVersions}
 use Rattle.live_cli.specs.declared.words.Options.{Options}
 use Rattle.live_cli.specs.declared.words.Role.{Role}
 use Rattle.live_cli.specs.declared.words.Role.TheVariants.{Serve, Ask}
@@ -40,6 +45,10 @@ usual_syscap = 0x2001c3466
 abbrev pub max_links : ℕ
 max_links = 1023
 
+-- how many versions of a file are kept, where the words don't say
+abbrev pub usual_keep : ℕ
+usual_keep = 3
+
 -- the name of an end, and its options by default
 abbrev pub usual : Role → Text × Options
 usual Serve = (
@@ -56,7 +65,7 @@ usual Serve = (
     syscap = usual_syscap;
     waiting = usual_waiting;
     links = 1;
-    folded = false;
+    names = Exact;
   },
 )
 usual Ask = (
@@ -73,7 +82,7 @@ usual Ask = (
     syscap = usual_syscap;
     waiting = usual_waiting;
     links = 1;
-    folded = false;
+    names = Exact;
   },
 )
 
@@ -96,14 +105,16 @@ end_line (word, o) = fold with_rule (new_app word)
     ∷ number (codes "ostype") (decimal o.ostype) 0 255 ∷ number (codes "filesys") (decimal o.filesys) 0 255
     ∷ option (codes "syscap") (codes "2001c3466") ∷ [])
 
--- the subcommand `serve`, which has three options more
+-- the subcommand `serve`, which has four options more
 abbrev pub serve_line : App
 serve_line =
     with_rule
     (with_rule
+    (with_rule
     (with_rule (end_line (usual Serve)) (number (codes "waiting") (decimal usual_waiting) min_waiting max_waiting))
     (number (codes "links") (decimal 1) 1 max_links))
-    (option (codes "names") (codes "exact"))
+    (option (codes "names") (codes "exact")))
+    (number (codes "keep") (decimal usual_keep) 1 max_version)
 
 -- all words: one of two subcommands
 abbrev pub daplive : App
@@ -131,15 +142,6 @@ syscap_of word =
     then option_and_then as_syscap (option_map (from_be_bytes w128) (result_ok (decode_sized (replicate (32 - length word) 48 ++ word) 16)))
     else None
 
--- whether names are compared by their folds
-abbrev pub folded_of : Text → Option Bool
-folded_of word = if bytes_eq word (codes "exact") then Some false else if bytes_eq word (codes "folded") then Some true else None
-
--- whether the words say that names are compared by their folds; `ask` has no such option
-abbrev pub names_of : Role → List Row → Option Bool
-names_of Serve rows = option_and_then folded_of (first_of (codes "names") rows)
-names_of Ask rows = Some false
-
 -- how many bytes may wait; `ask` has no such option
 abbrev pub waiting_of : Role → List Row → Option ℕ
 waiting_of Serve rows = option_and_then (decimal_of max_waiting) (first_of (codes "waiting") rows)
@@ -157,6 +159,37 @@ has_value name rows = option_map_or (λ row. is_word row.source) (find (λ row. 
 -- the words give the end an address
 abbrev pub has_address : List Row → Bool
 has_address rows = has_value (codes "local") rows || has_value (codes "remote") rows
+
+-- how names are compared
+abbrev pub compared_of : Text → Option Compared
+compared_of word =
+    if bytes_eq word (codes "exact") then Some ByBytes
+    else if bytes_eq word (codes "folded") then Some ByFolds
+    else if bytes_eq word (codes "versions") then Some ByVersions
+    else None
+
+-- names have versions
+abbrev pub has_versions : Compared → Bool
+has_versions ByVersions = true
+has_versions compared = false
+
+-- names that are compared so, of which this number of versions is kept
+abbrev pub names_by : Compared → (keep : ℕ) → Names
+names_by ByBytes keep = Exact
+names_by ByFolds keep = Folded
+names_by ByVersions keep = Versions keep
+
+-- such names; only where they have versions do the words say how many are kept
+abbrev pub names_beside : List Row → (keep : ℕ) → Compared → Option Names
+names_beside rows keep compared =
+    if has_value (codes "keep") rows && not (has_versions compared) then None else Some (names_by compared keep)
+
+-- how the words say that names are compared; `ask` has no such option
+abbrev pub names_of : Role → List Row → Option Names
+names_of Serve rows =
+    option_and_then (λ keep. option_and_then (names_beside rows keep) (option_and_then compared_of (first_of (codes "names") rows)))
+    (option_and_then short (first_of (codes "keep") rows))
+names_of Ask rows = Some Exact
 
 -- this many links; several have no address of the words
 abbrev pub links_beside : List Row → ℕ → Option ℕ
@@ -181,7 +214,7 @@ options_of role rows =
     value rows syscap_of (codes "syscap") (λ syscap.
     option_and_then (λ waiting.
     option_and_then (λ links.
-    option_and_then (λ folded. Some (record {
+    option_and_then (λ names. Some (record {
       role = role;
       local = local;
       remote = remote;
@@ -193,7 +226,7 @@ options_of role rows =
       syscap = syscap;
       waiting = waiting;
       links = links;
-      folded = folded;
+      names = names;
     })) (names_of role rows)) (links_of role rows)) (waiting_of role rows)))))))))
 
 -- which end a subcommand names, and its options

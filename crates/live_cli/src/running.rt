@@ -14,7 +14,7 @@ ghost use Rattle.dap_msg.specs.declared.message.Message.TheVariants.{Config};
 ghost use Rattle.live_cli.specs.declared.words.Options.{Options as TheOptions};
 ghost use Rattle.live_cli.specs.declared.words.Role.TheVariants as role;
 ghost use Rattle.live_cli.specs.declared.words.Role.{Role as TheRole};
-ghost use Rattle.live_cli.specs.Running.{AnswersAll, EndGives, GivesAs, ServesLines, identity_of, names_by, server_of, link_setup};
+ghost use Rattle.live_cli.specs.Running.{AnswersAll, EndGives, GivesAs, ServesLines, identity_of, server_of, link_setup};
 ghost use Rattle.live_cli.specs.Words.{capture_hint, daplive, end_named, usual};
 
 use crate::words::{Misspelt, Options, Role, capture_hint, read_words};
@@ -97,13 +97,6 @@ fn identity(options: Options) -> Configuration
     }
 }
 
-/// Returns how names are compared.
-fn comparing(folded: bool) -> Names
-    ensures { result ≡ names_by folded }
-{
-    if folded { Names::Folded } else { Names::Exact }
-}
-
 /// Returns how the server is set up.
 fn server_setup(options: Options) -> ServerSetup
     requires room { min_buffer ≤ options.buffer }
@@ -113,7 +106,7 @@ fn server_setup(options: Options) -> ServerSetup
 {
     ServerSetup {
         identity: identity(options),
-        names: comparing(options.folded),
+        names: options.names,
         most: ALL_RIGHTS,
         full: true,
     }

@@ -10,16 +10,19 @@ ghost use Rattle.dap_msg.specs.BothEnds.{max_nsp_message, min_buffer};
 ghost use Rattle.nsp_link.specs.Limits.{max_segment, max_window};
 ghost use Rattle.texts.specs.Words.{short};
 ghost use Rattle.dap_live.specs.Orders.{address_of};
-ghost use Rattle.live_cli.specs.Words.{code_of, folded_of, names_of, syscap_of, daplive, max_waiting, has_address, has_value as is_given_in, is_word as is_in_words, min_waiting, links_of, max_links, option as option_rule, options_of, capture_hint, end_in as end_of_rows, end_named, waiting_of};
+ghost use Rattle.file_names.specs.Versions.{max_version};
+ghost use Rattle.live_cli.specs.Words.{code_of, compared_of, has_versions, names_by, names_of, syscap_of, daplive, max_waiting, has_address, has_value as is_given_in, is_word as is_in_words, min_waiting, links_of, max_links, option as option_rule, options_of, capture_hint, end_in as end_of_rows, end_named, waiting_of};
 ghost use Rattle.live_cli.specs.Inner.CommandLine.{HasAddresses, HasCodes, HasIdentity, HasLimits, HasLinks, HasNames, HasBufferRoom, HasSyscap, HasWaiting, IsDapliveLine, IsEndLine, IsServeLine};
-ghost use Rattle.live_cli.specs.Inner.Spelling.{AreRight, IsFirstWrong, IsMisspelt, link_spellings, spellings};
+ghost use Rattle.live_cli.specs.Inner.Spelling.{AreRight, IsFirstWrong, IsMisspelt, link_spellings, name_spellings, spellings};
 
 use clap::builder::ValueParser;
 use clap::error::ErrorKind;
 use clap::parser::ValueSource;
 use clap::{Arg, ArgMatches, Command, Error, value_parser};
+use dap_accessed::Names;
 use dap_live::read_address;
 use dap_msg::{MAX_MESSAGE, MIN_BUFFER};
+use file_names::MAX_VERSION;
 use nsp_link::{MAX_SEGMENT, MAX_WINDOW};
 use std::alloc::Global;
 use std::fmt;
@@ -181,6 +184,13 @@ const MAX_LINKS: i64 = 1023;
 /// The maximum OSTYPE and FILESYS.
 const MAX_CODE: u32 = 255;
 
+/// Returns the range of the number of versions that are kept.
+fn kept_counts<'a>() -> ValueParser<'a>
+    ensures { result ≡ parser.Signed (pos 1) (pos max_version) }
+{
+    value_parser!(u16).range(1..=MAX_VERSION as i64)
+}
+
 /// Returns the range of the number of links that there may be room for.
 fn link_counts<'a>() -> ValueParser<'a>
     ensures { result ≡ parser.Signed (pos 1) (pos max_links) }
@@ -280,7 +290,8 @@ fn with_links<'a>(alloc: Global, command: Command<'a>) -> Result<Command<'a>, Er
     Ok(command)
 }
 
-/// Adds `--names` to a command line: how names are compared, which only the server has.
+/// Adds `--names` and `--keep` to a command line: how names are compared, and how many versions a file has, which only
+/// the server has.
 fn with_names<'a>(alloc: Global, command: Command<'a>) -> Result<Command<'a>, Error>
     ensures added { IfOk result (HasNames command.entry) }
     ensures memory { IfErr result (λ error. kind_of error ≡ ErrorKind.OutOfMemory) }
@@ -290,9 +301,18 @@ fn with_names<'a>(alloc: Global, command: Command<'a>) -> Result<Command<'a>, Er
         "names",
         "HOW",
         "exact",
-        "How names of files are compared: exact, byte by byte; or folded, without directories, versions and case",
+        "How names of files are compared: exact, byte by byte; folded, without directories, versions and case; or versions, so too, where a file that is made again gets the next number",
+    );
+    let keep = number(
+        alloc,
+        "keep",
+        "COUNT",
+        "3",
+        "With --names versions, how many of a file are kept, 1 to 32767: one more replaces the lowest",
+        kept_counts(),
     );
     let command = command.arg(names)?;
+    let command = command.arg(keep)?;
     Ok(command)
 }
 
@@ -395,8 +415,16 @@ pub struct Options {
     pub waiting: u32,
     /// How many links the server has room for; with 2 and more the addresses are of no meaning. 1 for the client.
     pub links: u16,
-    /// Names are compared by their folds; of no meaning to the client.
-    pub folded: bool,
+    /// How names are compared; of no meaning to the client.
+    pub names: Names,
+}
+
+/// How names are compared, by the word of `--names`.
+#[derive(Clone, Copy)]
+pub(crate) enum Compared {
+    ByBytes,
+    ByFolds,
+    ByVersions,
 }
 
 /// How an option's value has to be spelled.
@@ -412,8 +440,10 @@ pub(crate) enum Digits {
     Code,
     /// By 1 to 21 hex digits.
     Abilities,
-    /// By one of two words.
+    /// By one of three words.
     Comparing,
+    /// Not at all: only where names have versions is there a number of those that are kept.
+    Kept,
     /// Not at all: a server of several links has no address among its options.
     Nowhere,
 }
@@ -433,7 +463,8 @@ impl Display for Digits {
             Digits::Number | Digits::Bytes | Digits::Code =>
                 "a number is decimal digits, ten at most",
             Digits::Abilities => "a SYSCAP is 1 to 21 hex digits",
-            Digits::Comparing => "names are exact or folded",
+            Digits::Comparing => "names are exact, folded or versions",
+            Digits::Kept => "goes with --names versions alone",
             Digits::Nowhere => "with several links the addresses are those of 'new'",
         })
     }
@@ -602,42 +633,77 @@ fn syscap_in<'a>(matches: &ArgMatches<'a>) -> Result<u128, Misspelt<'a>>
     }
 }
 
-/// Reads whether names are compared by their folds, by its word.
-fn read_folded(text: &str) -> Option<bool>
-    ensures { result ≡ folded_of text.now }
+/// Reads how names are compared, by its word.
+fn read_compared(text: &str) -> Option<Compared>
+    ensures { result ≡ compared_of text.now }
 {
     match text.as_bytes() {
-        word if is(word, "exact") => Some(false),
-        word if is(word, "folded") => Some(true),
+        word if is(word, "exact") => Some(Compared::ByBytes),
+        word if is(word, "folded") => Some(Compared::ByFolds),
+        word if is(word, "versions") => Some(Compared::ByVersions),
         _ => None,
     }
 }
 
-/// Reads whether names are compared by their folds; a client has no such option.
-#[tactic(auto, using(crate::proofs::FirstLemmas::one_right, crate::proofs::FirstLemmas::one_wrong))]
-fn folded_in<'a>(role: Role, matches: &ArgMatches<'a>) -> Result<bool, Misspelt<'a>>
+/// Returns names that are compared so, of which this number of versions is kept.
+fn names_by(compared: Compared, keep: u16) -> Names
+    ensures { result ≡ names_by compared keep }
+{
+    match compared {
+        Compared::ByBytes => Names::Exact,
+        Compared::ByFolds => Names::Folded,
+        Compared::ByVersions => Names::Versions(keep),
+    }
+}
+
+/// Returns whether names have versions.
+fn has_versions(compared: Compared) -> bool
+    ensures { result ≡ has_versions compared }
+{
+    matches!(compared, Compared::ByVersions)
+}
+
+/// Returns the fault of a number of versions where names have none.
+fn kept_in_vain<'a>(matches: &ArgMatches<'a>) -> Misspelt<'a>
+    requires { IsTrue (is_given_in (codes "keep") (rows_of (found_of matches.now))) }
+    ensures misspelt { IsMisspelt (rows_of (found_of matches.now)) result }
+    ensures told { (result.option.now ≡ codes "keep") × (result.digits ≡ Digits.Kept) }
+{
+    Misspelt {
+        option: "keep",
+        value: text_in(matches, "keep").unwrap_or(""),
+        digits: Digits::Kept,
+    }
+}
+
+/// Reads how names are compared; only where they have versions do the words say how many are kept. A client has no such
+/// options.
+#[tactic(auto, using(crate::proofs::FirstLemmas::names_right, crate::proofs::FirstLemmas::names_wrong, crate::proofs::FirstLemmas::keep_wrong))]
+fn names_in<'a>(role: Role, matches: &ArgMatches<'a>) -> Result<Names, Misspelt<'a>>
     ensures value { result_ok result ≡ names_of role (rows_of (found_of matches.now)) }
     ensures misspelt { IfErr result (IsMisspelt (rows_of (found_of matches.now))) }
     ensures right { OnOk result (role ≡ Role.Serve
-        → AreRight ((codes "names", Digits.Comparing) ∷ []) (rows_of (found_of matches.now))) }
+        → AreRight name_spellings (rows_of (found_of matches.now))) }
     ensures first { IfErr result
-        (IsFirstWrong ((codes "names", Digits.Comparing) ∷ []) (rows_of (found_of matches.now))) }
+        (IsFirstWrong name_spellings (rows_of (found_of matches.now))) }
     ensures served { OnErr result (role ≡ Role.Serve) }
 {
     if role == Role::Ask {
-        return Ok(false);
+        return Ok(Names::Exact);
     }
+    let keep = number_in(matches, "keep")?;
     let value = text_in(matches, "names").unwrap_or("");
-    match read_folded(value) {
-        Some(folded) => Ok(folded),
-        None => {
-            Err(Misspelt {
-                option: "names",
-                value,
-                digits: Digits::Comparing,
-            })
-        }
+    let Some(compared) = read_compared(value) else {
+        return Err(Misspelt {
+            option: "names",
+            value,
+            digits: Digits::Comparing,
+        });
+    };
+    if is_given(matches, "keep") && !has_versions(compared) {
+        return Err(kept_in_vain(matches));
     }
+    Ok(names_by(compared, keep))
 }
 
 /// Reads how many bytes may wait while an end serves more; a client has no such option.
@@ -758,7 +824,7 @@ fn options_in<'a>(role: Role, matches: &ArgMatches<'a>) -> Result<Options, Missp
     let syscap = syscap_in(matches)?;
     let waiting = waiting_in(role, matches)?;
     let links = links_in(role, matches)?;
-    let folded = folded_in(role, matches)?;
+    let names = names_in(role, matches)?;
     Ok(Options {
         role,
         local,
@@ -771,7 +837,7 @@ fn options_in<'a>(role: Role, matches: &ArgMatches<'a>) -> Result<Options, Missp
         syscap,
         waiting,
         links,
-        folded,
+        names,
     })
 }
 

@@ -97,7 +97,7 @@ impl Call {
     }
 
     /// Takes the next word, or an empty one.
-    fn word(&mut self) -> &str {
+    pub fn word(&mut self) -> &str {
         let at = self.next;
         self.next = at.saturating_add(1);
         match self.words.get(at) {

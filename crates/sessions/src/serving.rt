@@ -23,12 +23,18 @@ fn live(call: &mut Call) -> Accessed {
     Accessed::with_setup(call.alloc(), setup)
 }
 
-/// Reads how names are compared.
+/// Reads how names are compared: with `versions` the number of those that are kept follows.
 fn names(call: &mut Call) -> Names {
-    if call.either("exact", "folded") {
+    let word = call.word();
+    if word == "exact" {
         Names::Exact
-    } else {
+    } else if word == "folded" {
         Names::Folded
+    } else {
+        if word != "versions" {
+            call.refuse();
+        }
+        Names::Versions(call.number(32_767) as u16)
     }
 }
 

@@ -16,7 +16,8 @@ use Rattle.dap_accessed.specs.declared.phase.Phase.{Phase}
 use Rattle.dap_accessed.specs.declared.phase.Phase.TheVariants as phases
 use Rattle.dap_accessed.specs.declared.verbs.Verb.{Verb}
 use Rattle.dap_accessed.specs.declared.verbs.Verb.TheVariants as verbs
-use Rattle.dap_accessed.specs.Standing.{plain_shape, index_by, index_to_erase, ServerState, Scene, Effect, enters, Fresh, Ready, Opened, Connected, Store, Stopped}
+use Rattle.dap_accessed.specs.Naming.{index_by, index_to_erase, number_made}
+use Rattle.dap_accessed.specs.Standing.{plain_shape, ServerState, Scene, Effect, enters, Fresh, Ready, Opened, Connected, Store, Stopped}
 use Rattle.dap_accessed.specs.Asked.{plainly}
 use Rattle.dap_accessed.specs.Past.{asked_file, next_ordinal}
 use Rattle.dap_accessed.specs.Accesses.{refuse_access, open_file, create_file, erase_file}
@@ -173,7 +174,7 @@ abbrev pub opens : Present → (name : List ℕ) → (fac : ℕ) → Move
 opens p name fac = accesses p (open_file p.setup (scene_in p) fac (index_by p.setup.names name p.files))
 
 abbrev pub creates : Present → (name : List ℕ) → (fac : ℕ) → Move
-creates p name fac = accesses p (create_file p.setup (scene_in p) name fac (index_by p.setup.names name p.files) p.kept)
+creates p name fac = accesses p (create_file p.setup (scene_in p) name fac (number_made p.setup.names name p.files) p.kept)
 
 abbrev pub erases : Present → (name : List ℕ) → Move
 erases p name = accesses p (erase_file p.setup (scene_in p) (index_to_erase p.setup.names name p.files))

@@ -1,5 +1,5 @@
 -- What one link's session does beside those of the others.
-use Rattle.std.specs.Prelude.{ℕ, ◌≡◌, ◌≤◌, Bool, true, false, ◌||◌, nat_lt, if◌then◌else◌, List, [], ◌∷◌, length, map, Option, Some, None}
+use Rattle.std.specs.Prelude.{ℕ, ◌≡◌, ◌≤◌, Bool, true, false, ◌||◌, if◌then◌else◌, List, [], ◌∷◌, map, Option, Some, None}
 use Rattle.std.specs.List.{list_any}
 use Rattle.std.specs.Option.{option_or}
 use Rattle.std.specs.Global.{Vec}
@@ -12,7 +12,7 @@ use Rattle.dap_accessed.specs.Standing.{Files}
 use Rattle.dap_accessed.specs.Replies.{bare_status}
 use Rattle.dap_accessed.specs.Served.{AreAnswers}
 use Rattle.dap_accessed.specs.Sessions.{SessionValue, IsIn, IsOpenIn, IsSilentIn, ServesItem, asked_in, with_files, open_at, refused_session}
-use Rattle.dap_shared.specs.Sharing.{bars, file_locked}
+use Rattle.dap_shared.specs.Sharing.{bars, file_locked, has_made, is_fewer}
 use Rattle.dap_shared.specs.Shared.{session_without}
 
 -- one of the others has something open that bars what is asked for
@@ -26,8 +26,9 @@ session_moved_up None s = s
 session_moved_up (Some removed) s = session_without removed.at s
 
 -- what was open, or asked for, is gone from the table, if there are fewer files
-abbrev pub gone_by : (asked : Option OpenFile) → (before after : Files) → Phase → Option OpenFile
-gone_by asked before after phase = if nat_lt (length after) (length before) then option_or (open_at phase) asked else None
+abbrev pub gone_by : (asked : Option OpenFile) → (before after : Files) → (phase later : Phase) → Option OpenFile
+gone_by asked before after phase later =
+    if is_fewer (has_made (open_at phase) (open_at later)) before after then option_or (open_at phase) asked else None
 
 -- refused as the file is locked, or served
 abbrev pub ServesOrRefuses : (locked : Bool) → Item → Files → SessionValue → Files → SessionValue → Vec (Vec ℕ) → Type 0
@@ -50,7 +51,7 @@ IsSilentBetween item files before s after =
 -- one link's session moved beside others, which are moved up where a file was removed
 pub record MovesBeside (item : Item) (files : Files) (others : List SessionValue) (s : SessionValue) (files' : Files) (others' : List SessionValue) (s' : SessionValue) (answers : Vec (Vec ℕ)) : Type 0 where
   pub does : ServesOrRefuses (is_barred others (asked_in s.setup files s.phase item)) item files s files' s' answers
-  pub moved : others' ≡ map (session_moved_up (gone_by (asked_in s.setup files s.phase item) files files' s.phase)) others
+  pub moved : others' ≡ map (session_moved_up (gone_by (asked_in s.setup files s.phase item) files files' s.phase s'.phase)) others
   pub there : IsOpenIn files' s'.phase
 
 -- one link's session moved, beside those of the links before it and of the links after it
@@ -61,6 +62,6 @@ pub record MovesAmong (item : Item) (files : Files) (before : List SessionValue)
       (is_barred before (asked_in s.setup files s.phase item)
       || is_barred after (asked_in s.setup files s.phase item))
       item files s files' s' answers
-  pub first : before' ≡ map (session_moved_up (gone_by (asked_in s.setup files s.phase item) files files' s.phase)) before
-  pub rest : after' ≡ map (session_moved_up (gone_by (asked_in s.setup files s.phase item) files files' s.phase)) after
+  pub first : before' ≡ map (session_moved_up (gone_by (asked_in s.setup files s.phase item) files files' s.phase s'.phase)) before
+  pub rest : after' ≡ map (session_moved_up (gone_by (asked_in s.setup files s.phase item) files files' s.phase s'.phase)) after
   pub there : IsOpenIn files' s'.phase

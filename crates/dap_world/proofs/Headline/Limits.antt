@@ -23,7 +23,8 @@ use Rattle.std.specs.Prelude.{◌==◌, ◌&&◌, take_while, drop}
 use Rattle.std.specs.List.{prefix_len}
 use Rattle.dap_msg.specs.Codes as codes
 use Rattle.dap_accessed.specs.Replies.{bare_status}
-use Rattle.dap_accessed.specs.Standing.{index_by, index_to_erase, the_file, ServerState, Fresh, Ready, Opened, Connected, Store, Stopped, Group, Standing, Scene, Effect, enters, start}
+use Rattle.dap_accessed.specs.Standing.{the_file, ServerState, Fresh, Ready, Opened, Connected, Store, Stopped, Group, Standing, Scene, Effect, enters, start}
+use Rattle.dap_accessed.specs.Naming.{index_by, index_to_erase, number_made}
 use Rattle.dap_accessed.specs.Past.{asked_file, kept_attributes, is_dropping}
 use Rattle.dap_accessed.specs.Accesses.{rights_to_create, rights_to_erase, rights_to_open, erase_file, make_file, open_file, create_file, access_file, end_stream, complete}
 use Rattle.dap_accessed.specs.Records.{verb_of, get_pick, got, record_got, Change, Putting, Updating, effect_of_change, fits_limit, at_number}
@@ -53,13 +54,13 @@ module _ (P : ℕ → Type 0) where
     of-open own fac None = p
     of-open own fac (Some n) = of-either (lacks own.most (rights_to_open fac)) _ _ p p
 
-    of-make : (name : List ℕ) (fac : ℕ) (shape : Option Asked) → P (make_file scene name fac shape).scene.limit
-    of-make name fac None = p
-    of-make name fac (Some shape) = p
+    of-make : (new : List ℕ) (fac : ℕ) (replaced : Option ℕ) (shape : Option Asked) → P (make_file scene new fac replaced shape).scene.limit
+    of-make new fac replaced None = p
+    of-make new fac replaced (Some shape) = p
 
-    of-create : (own : ServerSetup) (name : List ℕ) (fac : ℕ) (at : Option ℕ) (shape : Option Asked) → P (create_file own scene name fac at shape).scene.limit
-    of-create own name fac (Some n) shape = p
-    of-create own name fac None shape = of-either (lacks own.most (rights_to_create fac)) _ _ p (of-make name fac shape)
+    of-create : (own : ServerSetup) (name : List ℕ) (fac : ℕ) (number : Option ℕ) (shape : Option Asked) → P (create_file own scene name fac number shape).scene.limit
+    of-create own name fac None shape = p
+    of-create own name fac (Some n) shape = of-either (lacks own.most (rights_to_create fac)) _ _ p (of-make _ fac _ shape)
 
     of-erase : (own : ServerSetup) (at : Option ℕ) → P (erase_file own scene at).scene.limit
     of-erase own None = p
@@ -69,7 +70,7 @@ module _ (P : ℕ → Type 0) where
     of-access own a shape =
         let found = index_by own.names a.name scene.files in
         of-either (a.func == codes.accfunc.opening) _ _ (of-open own a.fac found)
-        (of-either (a.func == codes.accfunc.creating) _ _ (of-create own a.name a.fac found shape)
+        (of-either (a.func == codes.accfunc.creating) _ _ (of-create own a.name a.fac (number_made own.names a.name scene.files) shape)
         (of-either (own.full && a.func == codes.accfunc.erasing) _ _ (of-erase own (index_to_erase own.names a.name scene.files)) p))
 
     of-end : (o : OpenFile) (state : ServerState) → P (end_stream scene o state).scene.limit

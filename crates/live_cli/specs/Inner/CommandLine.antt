@@ -6,6 +6,7 @@ use Rattle.clap.specs.Words.{App, Text, app_of, new_app, with_rule}
 use Rattle.dap_msg.specs.BothEnds.{max_nsp_message, min_buffer}
 use Rattle.nsp_link.specs.Limits.{max_segment, max_window}
 use Rattle.live_cli.specs.declared.words.Options.{Options}
+use Rattle.file_names.specs.Versions.{max_version}
 use Rattle.live_cli.specs.Words.{daplive, max_waiting, min_waiting, max_links, number, option}
 
 -- the command is another with more words, none of them global
@@ -62,9 +63,10 @@ HasWaiting before =
 abbrev pub HasLinks : Command → Command → Type 0
 HasLinks before = Becomes before (with_rule (app_of before) (number (codes "links") (codes "1") 1 max_links))
 
--- a command with the third option of it
+-- a command with the third and the fourth option of it
 abbrev pub HasNames : Command → Command → Type 0
-HasNames before = Becomes before (with_rule (app_of before) (option (codes "names") (codes "exact")))
+HasNames before = Becomes before
+    (with_rule (with_rule (app_of before) (option (codes "names") (codes "exact"))) (number (codes "keep") (codes "3") 1 max_version))
 
 -- a command that is the command line of an end
 pub record IsEndLine (name own other : Text) (command : Command) : Type 0 where
@@ -76,9 +78,11 @@ abbrev pub serve_line_by : App
 serve_line_by =
     with_rule
     (with_rule
+    (with_rule
     (with_rule (end_line_by (codes "serve") (codes "0202") (codes "0101")) (number (codes "waiting") (codes "1048576") min_waiting max_waiting))
     (number (codes "links") (codes "1") 1 max_links))
-    (option (codes "names") (codes "exact"))
+    (option (codes "names") (codes "exact")))
+    (number (codes "keep") (codes "3") 1 max_version)
 
 -- a command that is the command line of the server
 pub record IsServeLine (command : Command) : Type 0 where

@@ -3,9 +3,9 @@ use Rattle.std.proofs.Common.{[], ◌∷◌, List, drop}
 use Rattle.std.specs.Prelude.{codes}
 use Rattle.clap.specs.Words.{Row, Text, found_of, rows_of}
 use Rattle.live_cli.specs.declared.words.Digits.{Digits}
-use Rattle.live_cli.specs.declared.words.Digits.TheVariants.{Abilities, Address, Bytes, Code, Comparing, Number}
+use Rattle.live_cli.specs.declared.words.Digits.TheVariants.{Abilities, Address, Bytes, Code, Number}
 use Rattle.live_cli.specs.declared.words.Role.TheVariants.{Serve}
-use Rattle.live_cli.specs.Inner.Spelling.{IsFirstWrong, link_spellings, own_spellings, spellings}
+use Rattle.live_cli.specs.Inner.Spelling.{IsFirstWrong, link_spellings, name_spellings, own_spellings, spellings}
 use Rattle.live_cli.proofs.FirstLemmas.{among, later, of_server, passed_on}
 use Rattle.live_cli.proofs.words.options_in.Goals as goal
 
@@ -138,13 +138,13 @@ returns-in_err-links-clause-first c =
     (later rows ((codes "waiting", Bytes) ∷ []) (drop 1 own) m (c.in_ok-waiting.ensures.right c.in_err-links.ensures.served)
     (among rows link_spellings (drop 4 own) m c.in_err-links.ensures.first)))))))))))
 
-pub returns-in_err-folded-clause-first : goal.returns-in_err-folded-clause-first
-returns-in_err-folded-clause-first c =
+pub returns-in_err-names-clause-first : goal.returns-in_err-names-clause-first
+returns-in_err-names-clause-first c =
     let rows : List Row = rows_of (found_of c.args.matches.now) in
     let all : List (Text × Digits) = spellings c.args.role in
     let own : List (Text × Digits) = own_spellings Serve in
-    let m = c.in_err-folded.field-0.0 in
-    passed_on c.from_residual-in_err-folded.result m (IsFirstWrong all rows) c.from_residual-in_err-folded.ensures.1
+    let m = c.in_err-names.field-0.0 in
+    passed_on c.from_residual-in_err-names.result m (IsFirstWrong all rows) c.from_residual-in_err-names.ensures.1
     (later rows ((codes "local", Address) ∷ []) (drop 1 all) m c.in_ok-local.ensures.right
     (later rows ((codes "remote", Address) ∷ []) (drop 2 all) m c.in_ok-remote.ensures.right
     (later rows ((codes "segment", Number) ∷ []) (drop 3 all) m c.in_ok-segment.ensures.right
@@ -153,7 +153,7 @@ returns-in_err-folded-clause-first c =
     (later rows ((codes "ostype", Code) ∷ []) (drop 6 all) m c.in_ok-ostype.ensures.right
     (later rows ((codes "filesys", Code) ∷ []) (drop 7 all) m c.in_ok-filesys.ensures.right
     (later rows ((codes "syscap", Abilities) ∷ []) (drop 8 all) m c.in_ok-syscap.ensures.right
-    (of_server c.args.role rows m c.in_err-folded.ensures.served
-    (later rows ((codes "waiting", Bytes) ∷ []) (drop 1 own) m (c.in_ok-waiting.ensures.right c.in_err-folded.ensures.served)
-    (later rows link_spellings (drop 4 own) m (c.in_ok-links.ensures.right c.in_err-folded.ensures.served)
-    (among rows ((codes "names", Comparing) ∷ []) (drop 5 own) m c.in_err-folded.ensures.first))))))))))))
+    (of_server c.args.role rows m c.in_err-names.ensures.served
+    (later rows ((codes "waiting", Bytes) ∷ []) (drop 1 own) m (c.in_ok-waiting.ensures.right c.in_err-names.ensures.served)
+    (later rows link_spellings (drop 4 own) m (c.in_ok-links.ensures.right c.in_err-names.ensures.served)
+    (among rows name_spellings (drop 7 own) m c.in_err-names.ensures.first))))))))))))

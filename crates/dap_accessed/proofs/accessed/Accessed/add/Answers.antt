@@ -1,5 +1,4 @@
-use Rattle.std.proofs.Common.{ap, sym, ◌∙◌}
-use Rattle.dap_accessed.proofs.Tables.{none_of}
+use Rattle.std.proofs.Common.{ap, ◌∙◌}
 use Rattle.dap_accessed.specs.Present.{Present}
 use Rattle.dap_accessed.specs.Sessions.{with_files}
 use Rattle.dap_accessed.specs.declared.accessed.Accessed.TheInside.{Inside}
@@ -10,6 +9,3 @@ pub returns-clause-stands : goal.returns-clause-stands
 returns-clause-stands c =
     stands_given c.args.self.now _ (c.is_fresh.ensures.yes c.if-not-is_fresh.false)
     (ap (λ (i : Inside). with_files c.make.new.self i.session) c.self-inside.view_is ∙ ap (λ (p : Present). record p { files = c.make.new.self }) c.self.view_is)
-
-pub make-requires-clause-new : goal.make-requires-clause-new
-make-requires-clause-new c = c.find_by.ensures.none (none_of c.find_by.result (sym c.is_some.ensures ∙ c.if-is_some.false))

@@ -1,7 +1,8 @@
 use Rattle.std.proofs.Common.{◌≡◌, ◌∙◌, Some, subst, sym}
 use Rattle.std.specs.Prelude.{IfErr, OnOk}
 use Rattle.dap_accessed.specs.Adding.{MayStore}
-use Rattle.dap_accessed.specs.Standing.{file_at, index_by}
+use Rattle.dap_accessed.specs.Standing.{file_at}
+use Rattle.dap_accessed.specs.Naming.{index_by}
 use Rattle.dap_shared.specs.Nodes.{GivesRecord, with_record_at}
 use Rattle.dap_shared.specs.Shared.{AtFile, RecordNotAdded, SharedGiven, SharedValue}
 use Rattle.dap_shared.proofs.Held.{files-at, given-at, may-store, record-held, record-refused, recorded}

@@ -1,7 +1,7 @@
 use Rattle.std.proofs.Common.{◌≡◌, ◌∙◌, ℕ, List, length, map, Some, ap, subst, sym, true}
 use Rattle.std.specs.Vec.{with_items}
 use Rattle.std.proofs.lemmas.List.{length-map}
-use Rattle.dap_accessed.specs.Standing.{index_by}
+use Rattle.dap_accessed.specs.Naming.{index_by}
 use Rattle.dap_accessed.specs.Sessions.{SessionValue}
 use Rattle.dap_shared.specs.Shared.{AtFile, SharedDrops, SharedValue, is_held, session_without}
 use Rattle.dap_shared.specs.Inner.Held.{IsHeld}
