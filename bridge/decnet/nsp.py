@@ -3,6 +3,8 @@ import enum
 import struct
 from dataclasses import dataclass
 
+from decnet import tables
+
 NUMBERS = 4096  # segments are numbered modulo this
 AHEAD = NUMBERS // 2  # a number nearer than this, going up, is ahead
 FAL = 17  # the object number of a file access listener
@@ -106,34 +108,9 @@ class Reason(enum.IntEnum):
     IMAGE_TOO_LONG = 43
 
 
-MEANINGS = {
-    Reason.NO_ERROR: "no error",
-    Reason.NO_RESOURCES: "no resources",
-    Reason.NO_NODE: "unknown node",
-    Reason.SHUTTING_DOWN: "the node is shutting down",
-    Reason.NO_OBJECT: "unknown object",
-    Reason.BAD_NAME: "a name that is no object's",
-    Reason.BUSY: "busy",
-    Reason.UNSPECIFIED: "unspecified error",
-    Reason.THIRD_PARTY: "aborted by management",
-    Reason.ABORTED: "aborted",
-    Reason.BAD_NODE_NAME: "a name that is no node's",
-    Reason.LOCAL_SHUT_DOWN: "the local node is shut down",
-    Reason.NO_LINK_RESOURCES: "the node has no room for another link",
-    Reason.NO_USER_RESOURCES: "the object has no room for another link",
-    Reason.ACCESS_CONTROL: "the user or the password was rejected",
-    Reason.BAD_ACCOUNT: "the account was rejected",
-    Reason.TIMED_OUT: "the object didn't answer",
-    Reason.UNREACHABLE: "the node can't be reached",
-    Reason.NO_LINK: "no such link",
-    Reason.COMPLETE: "disconnect complete",
-    Reason.IMAGE_TOO_LONG: "a field of the connect message is too long",
-}
-
-
 def reason_text(number):
     """A reason in words, with its number."""
-    return f"reason {number} ({MEANINGS.get(number, 'unknown')})"
+    return f"reason {number} ({tables.LINK_REASON.get(number, 'unknown')})"
 
 
 @dataclass(frozen=True)

@@ -21,6 +21,13 @@ REASON = {1: "file exists", 2: "not permitted", 3: "no current record", 4: "reco
           10: "too large for buffer", 11: "bad attributes", 12: "bad key"}
 FILESYS = {1: "RMS-11", 2: "RMS-20", 3: "RMS-32", 4: "FCS-11", 5: "RT-11", 6: "none", 7: "TOPS-20", 8: "TOPS-10",
            9: "OS-8", 10: "RMS-32S", 11: "CP/M", 12: "MS-DOS", 13: "Ultrix-32", 14: "Ultrix-11"}
+LINK_REASON = {0: "no error", 1: "no resources", 2: "unknown node", 3: "the node is shutting down", 4: "unknown object",
+               5: "a name that is no object's", 6: "busy", 7: "unspecified error", 8: "aborted by management",
+               9: "aborted", 10: "a name that is no node's", 11: "the local node is shut down",
+               32: "the node has no room for another link", 33: "the object has no room for another link",
+               34: "the user or the password was rejected", 36: "the account was rejected",
+               38: "the object didn't answer", 39: "the node can't be reached", 41: "no such link",
+               42: "disconnect complete", 43: "a field of the connect message is too long"}
 # by the bits of RAT
 RAT = {0: "FTN", 1: "CR", 2: "PRN", 3: "BLK"}
 # Attributes: the most bytes of the menu; by the bits of that each field, its kind, and its bytes or the most

@@ -11,8 +11,10 @@ use dap_msg::{FaultKind, MsgFault};
 use dap_world::WorldFault;
 use decnet_frames::{Counts, FramesFault};
 use linewise::CaptureFault;
+use nsp_control::ControlFault;
 use nsp_link::{Got, LinkFault};
 use nsp_seg::SegFault;
+use nsp_session::SessionFault;
 use rec_file::Refusal;
 use std::error::Error;
 
@@ -44,6 +46,20 @@ const OF_PACKETS: &[SegFault] = &[
     SegFault::NotHere(8),
     SegFault::BadNumber(5),
     SegFault::NoMemory,
+];
+
+const OF_CONTROL: &[ControlFault] = &[
+    ControlFault::Truncated(7),
+    ControlFault::Trailing(3),
+    ControlFault::NotHere(16),
+    ControlFault::BadAddress(1),
+    ControlFault::NoMemory,
+];
+
+const OF_SESSIONS: &[SessionFault] = &[
+    SessionFault::Truncated(0),
+    SessionFault::BadForm(5),
+    SessionFault::TooLong(18),
 ];
 
 const OF_LINKS: &[LinkFault] = &[
@@ -169,6 +185,8 @@ pub fn call(out: &mut Lines) {
     print("kind", KINDS, out);
     print("message", OF_MESSAGES, out);
     print("packet", OF_PACKETS, out);
+    print("control", OF_CONTROL, out);
+    print("session", OF_SESSIONS, out);
     print("link", OF_LINKS, out);
     print("stream", OF_STREAMS, out);
     print("request", OF_REQUESTS, out);

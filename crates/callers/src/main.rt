@@ -5,6 +5,7 @@ mod captures;
 mod ends;
 mod faults;
 mod messages;
+mod packets;
 mod sharing;
 mod trouble;
 
@@ -15,6 +16,7 @@ use trouble::{Lines, Trouble};
 /// Calls each of them.
 fn call_all(alloc: Global, out: &mut Lines) -> Result<(), Trouble> {
     messages::call(alloc, out)?;
+    packets::call(alloc, out)?;
     sharing::call(alloc, out)?;
     ends::call(alloc, out)?;
     captures::call(alloc, out)?;

@@ -4,7 +4,9 @@ use dap_accessed::NoMemory;
 use dap_accessing::AskFault;
 use dap_end::{EndFault, TakeFault};
 use dap_msg::MsgFault;
+use nsp_control::ControlFault;
 use nsp_link::LinkFault;
+use nsp_session::SessionFault;
 use std::alloc::{AllocError, AllocFailed};
 use std::fmt::Display;
 use std::io::{Stdout, Write};
@@ -73,5 +75,17 @@ impl From<EndFault> for Trouble {
 impl From<TakeFault> for Trouble {
     fn from(_e: TakeFault) -> Trouble {
         Trouble("a packet")
+    }
+}
+
+impl From<ControlFault> for Trouble {
+    fn from(_e: ControlFault) -> Trouble {
+        Trouble("a packet")
+    }
+}
+
+impl From<SessionFault> for Trouble {
+    fn from(_e: SessionFault) -> Trouble {
+        Trouble("connect data")
     }
 }

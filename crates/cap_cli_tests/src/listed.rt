@@ -1,7 +1,7 @@
 //! The rows, in pieces of each size; files as lines, and lines out of files; fronts of inputs.
 
 use crate::captures::{SHORT, THREE, WIRE, WIRE_NG};
-use crate::rows::{CUT, OTHER_ROWS, ROWS, Row};
+use crate::rows::{CUT, OTHER_ROWS, ROWS, Row, SET_UP_ROWS};
 use crate::source::{run, whole, without_help};
 use std::alloc::Global;
 use std::test::Fail;
@@ -19,7 +19,7 @@ fn holds(alloc: Global, row: &Row<'_>, input: &[u8], step: usize) -> Result<bool
 
 #[test]
 fn each_row_holds(rt: HostRuntime) -> Result<(), Fail> {
-    for rows in [ROWS, OTHER_ROWS] {
+    for rows in [ROWS, OTHER_ROWS, SET_UP_ROWS] {
         for row in rows {
             for step in STEPS {
                 assert!(rt; holds(rt.alloc(), row, row.1, step)?);

@@ -106,6 +106,59 @@ const STAYS_TEXT: &[u8] = b"1 > segment only dst=0202 src=0101 seg=1 acks=- len=
 2 < not-here control\n\
 3 > segment only dst=0202 src=0101 seg=1 acks=- len=2\n";
 
+/// Packets that set up a link, refuse it or close it: an object by its number, by its name, and unknown; a user with a
+/// password; names and a user that aren't printable; connect data, a connect initiate and a disconnect confirm that can't
+/// be read; reasons that are known, and one that isn't.
+const SET_UPS: &[u8] = b"> 18000001010102000200110100074441504c49564500\n\
+> 6800000101010200020011010005534d4954480105534d4954480653454352455403414343\n\
+> 1800000101010200020100045441534b020001000200045553455200\n\
+> 18000001010102000200c801050200ff0100015800\n\
+> 1800000101010200020013010501ff010200410000\n\
+> 1800000101010200020019002a02024142\n\
+> 1800000101010200020011\n\
+> 1801000101010200020011001100\n\
+> 28010102020102000200\n\
+> 3802020101220000\n\
+> 38020201012c0100\n\
+> 48010102022a00\n\
+> 48010102022a0000\n\
+> 08\n\
+> 240101\n";
+
+/// What they say.
+const SET_UP_TEXT: &[u8] = b"1 > not-here control ; connect initiate, to FAL, from \"DAPLIVE\"\n\
+2 > not-here control ; connect initiate again, to FAL, from \"SMITH\", user \"SMITH\"\n\
+3 > not-here control ; connect initiate, to \"TASK\", from \"USER\"\n\
+4 > not-here control ; connect initiate, to object 200, from object 5\n\
+5 > not-here control ; connect initiate, to NML, from object 5\n\
+6 > not-here control ; connect initiate, to MIRROR, from CTERM\n\
+7 > not-here control ; connect initiate\n\
+8 > not-here control ; connect initiate\n\
+9 > not-here control ; connect confirm\n\
+10 > not-here control ; disconnect initiate, reason 34, the user or the password was rejected\n\
+11 > not-here control ; disconnect initiate, reason 300\n\
+12 > not-here control ; disconnect confirm, reason 42, disconnect complete\n\
+13 > not-here control ; disconnect confirm\n\
+14 > not-here control ; no operation\n\
+15 > not-here connect-ack\n";
+
+/// And without words.
+const BARE_SET_UPS: &[u8] = b"1 > not-here control\n\
+2 > not-here control\n\
+3 > not-here control\n\
+4 > not-here control\n\
+5 > not-here control\n\
+6 > not-here control\n\
+7 > not-here control\n\
+8 > not-here control\n\
+9 > not-here control\n\
+10 > not-here control\n\
+11 > not-here control\n\
+12 > not-here control\n\
+13 > not-here control\n\
+14 > not-here control\n\
+15 > not-here connect-ack\n";
+
 /// A message's first segment with its nodes, its last without them, and its last with them.
 const SOME_NODES: &[u8] =
     b"# frame 1 - 1.1 -> 1.2\n> 20020201010100010001020a\n> 4002020101020000040703050600000000\n\
@@ -449,6 +502,12 @@ pub(crate) const OTHER_ROWS: &[Row<'static>] = &[
         b"taken 0 passed 5\n",
         false,
     ),
+];
+
+/// What packets of set-up say.
+pub(crate) const SET_UP_ROWS: &[Row<'static>] = &[
+    (&[], SET_UPS, 0, SET_UP_TEXT, b"", false),
+    (&["--bare"], SET_UPS, 0, BARE_SET_UPS, b"", false),
 ];
 
 /// What a front of 200 bytes of three nodes' frames comes to.

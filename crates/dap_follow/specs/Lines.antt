@@ -4,7 +4,8 @@ use Rattle.std.specs.List.{concat}
 use Rattle.std.specs.Fmt.{decimal}
 use Rattle.nsp_seg.specs.declared.packet.Packet.TheVariants.{Segment}
 use Rattle.texts.specs.Text.{line_feed, word_text}
-use Rattle.dap_meanings.specs.Meanings.{frame_words, packet_words, with_words}
+use Rattle.dap_meanings.specs.Meanings.{with_words}
+use Rattle.link_words.specs.PacketWords.{frame_words, packet_words}
 use Rattle.dap_listing.specs.Listing.{arrow_text, heading}
 use Rattle.dap_listing.specs.Messages.{IsMessagesText}
 use Rattle.dap_listing.specs.Packets.{DecodedPacket, seen_line}
@@ -22,7 +23,7 @@ plain_line number packet seen = heading number packet.way ++ (nodes_text packet.
 -- the line of a packet; where words are wanted, with what its frame is called, and those of what is no segment
 abbrev pub packet_line : (in_words : Bool) → ℕ → FoundPacket → DecodedPacket → List ℕ
 packet_line in_words number packet seen =
-    if in_words then with_words (frame_words packet.frame ++ packet_words seen) (plain_line number packet seen) else plain_line number packet seen
+    if in_words then with_words (frame_words packet.frame ++ packet_words packet.bytes seen) (plain_line number packet seen) else plain_line number packet seen
 
 -- the lines of the messages in a segment that is a whole NSP message
 abbrev pub IsOwnText : (in_words : Bool) → DecodedPacket → List ℕ → Type 0

@@ -1,23 +1,25 @@
 //! The parts of lines: a packet with its words, a stream, and what a piece of it has.
 
-ghost use Rattle.std.specs.Prelude.{◌≡◌, ◌++◌, OnOk};
+ghost use Rattle.std.specs.Prelude.{◌≡◌, ◌++◌, ℕ, List, OnOk};
 ghost use Rattle.texts.specs.Adding.{Adds};
-ghost use Rattle.dap_meanings.specs.Meanings.{fault_words, if_there, packet_words};
+ghost use Rattle.dap_meanings.specs.Meanings.{if_there};
+ghost use Rattle.link_words.specs.PacketWords.{fault_words, packet_words};
 ghost use Rattle.decnet_frames.specs.Found.{found_seen};
 ghost use Rattle.dap_follow.specs.Lines.{length_text, packet_line, plain_line, range_text, stream_text};
 
 use crate::segments::ROUND;
 use crate::streams::Stream;
 use dap_listing::{arrow, push_heading, push_seen};
-use dap_meanings::add_packet_words;
 use decnet_frames::{Found, push_nodes};
+use link_words::add_packet_words;
 use nsp_seg::{PacketValue, SegFault};
 use std::alloc::AllocError;
 use texts::{push_number, push_str, push_word};
 
 /// Returns why bytes are no packet, if they are none.
 fn fault_of(seen: &Result<PacketValue<'_>, SegFault>) -> Option<SegFault>
-    ensures { if_there fault_words result ≡ packet_words seen.now }
+    ensures { (bytes : List ℕ)
+        → if_there (fault_words bytes) result ≡ packet_words bytes seen.now }
 {
     match seen {
         Ok(_) => None,
@@ -41,7 +43,7 @@ fn push_plain_line(
 }
 
 /// Appends the line of the packet that has the number; with its words, if these are wanted: what its frame is called,
-/// and those of what is no segment. Fails only if memory is refused.
+/// and those of what is no segment: what it does to a link. Fails only if memory is refused.
 pub(crate) fn push_packet_line(
     text: &mut Vec<u8>,
     number: usize,
@@ -54,7 +56,7 @@ pub(crate) fn push_packet_line(
 {
     push_plain_line(text, number, found, seen)?;
     if in_words {
-        return add_packet_words(text, found.frame, fault_of(seen));
+        return add_packet_words(text, found.frame, found.packet, fault_of(seen));
     }
     Ok(())
 }

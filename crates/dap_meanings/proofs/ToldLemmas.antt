@@ -5,9 +5,9 @@ use Rattle.std.specs.List.{flat_map}
 use Rattle.std.proofs.lemmas.List.{append-nil}
 use Rattle.std.proofs.lemmas.Grind.{flat_map-append, take_at_read}
 use Rattle.dap_meanings.specs.Meanings.{words_text}
-use Rattle.dap_meanings.specs.Inner.Words.{word_list, said_text}
+use Rattle.dap_meanings.specs.Words.{word_list, said_text}
 use Rattle.dap_meanings.specs.declared.words.Word.{Word}
-use Rattle.dap_meanings.specs.declared.words.Word.TheVariants.{Nothing, Named, Record, Quoted, Rights, Frame}
+use Rattle.dap_meanings.specs.declared.words.Word.TheVariants.{Nothing, Named, Record, Quoted, Rights, Frame, Known, Object, Called, Reason}
 
 -- what is between the words so far and the next one
 abbrev pub mark_after : List (List ℕ) → List ℕ
@@ -36,6 +36,10 @@ said-some (Record number) some = refl
 said-some (Quoted bytes) some = refl
 said-some (Rights fac) some = refl
 said-some (Frame text) some = refl
+said-some (Known before name) some = refl
+said-some (Object before number) some = refl
+said-some (Called before name) some = refl
+said-some (Reason number) some = refl
 
 -- one word more
 pub words_more : (words : List Word) (i : ℕ) → i < length words → (get_or words i Nothing ≡ Nothing → ⊥)

@@ -1,5 +1,5 @@
 pub mod Faults
-pub mod Inner
 pub mod Tables
 pub mod Quoted
 pub mod Meanings
+pub mod Words

@@ -1,5 +1,5 @@
 -- What the lines of a listing say in words.
-use Rattle.std.specs.Prelude.{◌≡◌, ℕ, ◌==◌, ◌||◌, ◌/◌, ◌-◌, nat_le, nat_lt, Bool, List, [], ◌∷◌, ◌++◌, codes, length, take, if◌then◌else◌, Option, Some, None, Ok, Err}
+use Rattle.std.specs.Prelude.{◌≡◌, ℕ, ◌==◌, ◌||◌, ◌-◌, nat_le, List, [], ◌∷◌, ◌++◌, codes, length, take, if◌then◌else◌, Option}
 use Rattle.std.specs.Option.{option_map_or}
 use Rattle.std.specs.List.{flat_map}
 use Rattle.std.specs.Fmt.{decimal}
@@ -10,12 +10,8 @@ use Rattle.dap_msg.specs.declared.message.Message.{Message}
 use Rattle.dap_msg.specs.declared.message.Message.TheVariants.{Config, Attrib, Access, Control, Contran, Ack, Accomp, Filedata, Status, Other}
 use Rattle.dap_msg.specs.declared.items.Item.{Item}
 use Rattle.dap_msg.specs.declared.items.Item.TheVariants.{Whole, Malformed}
-use Rattle.nsp_seg.specs.declared.packet.SegFault.TheVariants.{NotHere}
-use Rattle.nsp_seg.specs.declared.packet.Packet.{Packet}
-use Rattle.nsp_seg.specs.declared.packet.SegFault.{SegFault}
-use Rattle.std.specs.Prelude.{Result}
 use Rattle.texts.specs.Text.{line_feed}
-use Rattle.dap_meanings.specs.Tables.{Table, word_in, access_functions, complete_functions, continue_functions, control_functions, control_packets, formats, organizations, other_types, reason_table, record_accesses, status_codes, status_kinds, systems}
+use Rattle.dap_meanings.specs.Tables.{word_in, access_functions, complete_functions, continue_functions, control_functions, formats, organizations, other_types, reason_table, record_accesses, status_codes, status_kinds, systems}
 use Rattle.dap_meanings.specs.Quoted.{quoted_bytes}
 
 -- words, if a field is there
@@ -78,20 +74,6 @@ message_words (Other number body) = word_in other_types number
 abbrev pub item_words : Item → List (List ℕ)
 item_words (Whole m) = message_words m
 item_words (Malformed fault) = []
-
--- the words of bytes that are no packet: what they do to a link
-abbrev pub fault_words : SegFault → List (List ℕ)
-fault_words (NotHere flag) = word_in control_packets flag
-fault_words _ = []
-
--- what a frame is called, where that is known: else it is empty
-abbrev pub frame_words : List ℕ → List (List ℕ)
-frame_words frame = if nat_lt 0 (length frame) then frame ∷ [] else []
-
--- of a packet or a fault
-abbrev pub packet_words : Result Packet SegFault → List (List ℕ)
-packet_words (Ok packet) = []
-packet_words (Err fault) = fault_words fault
 
 -- ` ; ` and words, with `, ` between them
 abbrev pub words_text : List (List ℕ) → List ℕ

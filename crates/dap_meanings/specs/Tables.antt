@@ -11,12 +11,6 @@ abbrev pub word_in : Table → ℕ → List (List ℕ)
 word_in [] number = []
 word_in (entry ∷ others) number = if entry.0 == number then entry.1 ∷ [] else word_in others number
 
--- MSGFLG: the packets that set up a link and take it down (NSP 4.0.0, message formats)
-abbrev pub control_packets : Table
-control_packets =
-    (0x08, codes "no operation") ∷ (0x18, codes "connect initiate") ∷ (0x28, codes "connect confirm")
-    ∷ (0x38, codes "disconnect initiate") ∷ (0x48, codes "disconnect confirm") ∷ (0x68, codes "connect initiate again") ∷ []
-
 -- OSTYPE, of a Configuration: the system. All but 7 are from memory.
 abbrev pub systems : Table
 systems =

@@ -8,4 +8,7 @@ mod tables;
 mod words;
 
 pub use faults::push_packet_fault;
-pub use meanings::{add_item_words, add_packet_words};
+pub use meanings::add_item_words;
+pub use quoted::are_printable;
+pub use tables::{Entry, find, word_of};
+pub use words::{Word, add_words};

@@ -4,9 +4,9 @@ ghost use Rattle.std.specs.Prelude.{◌≡◌, ◌<◌, ◌++◌, [], ◌∷◌,
 ghost use Rattle.std.specs.List.{flat_map};
 ghost use Rattle.std.specs.Option.{option_map_or};
 ghost use Rattle.dap_msg.specs.declared.message.Message.TheVariants.{Access, Attrib, Control, Filedata, Status};
-ghost use Rattle.dap_meanings.specs.Meanings.{fault_words, frame_words, if_there, item_words, message_words, first_words, reason_words, refusal_words, record_words, status_words, with_words, KeepsButEnd};
+ghost use Rattle.dap_meanings.specs.Meanings.{if_there, item_words, message_words, first_words, reason_words, refusal_words, record_words, status_words, with_words, KeepsButEnd};
 ghost use Rattle.dap_meanings.specs.Tables.{word_in, formats, organizations, record_accesses};
-ghost use Rattle.dap_meanings.specs.Inner.Words.{word_list};
+ghost use Rattle.dap_meanings.specs.Words.{word_list};
 
 use crate::quoted::quoted;
 use crate::tables;
@@ -16,7 +16,6 @@ use dap_msg::{
     AccessFields, Attributes, Bytes, ControlFields, Item, MessageValue, StatusCode, StatusFields,
     number_of,
 };
-use nsp_seg::SegFault;
 use std::alloc::AllocError;
 
 /// The maximum of a number's image in bytes.
@@ -197,42 +196,4 @@ pub fn add_item_words(text: &mut Vec<u8>, item: &Item<'_>) -> Result<(), AllocEr
         Item::Whole(message) => add_message_words(text, message),
         Item::Malformed(_) => add_words(text, &[]),
     }
-}
-
-/// Returns what bytes that are no packet say.
-fn fault_word(fault: Option<SegFault>) -> Word<'static>
-    ensures { word_list result ≡ if_there fault_words fault }
-{
-    match fault {
-        Some(SegFault::NotHere(flag)) => tables::control_packet(flag),
-        _ => Word::Nothing,
-    }
-}
-
-/// Returns what a frame is called, where that is known.
-fn frame_word(frame: &[u8]) -> Word<'_>
-    ensures { word_list result ≡ frame_words frame.now }
-{
-    if frame.is_empty() {
-        return Word::Nothing;
-    }
-    Word::Frame(frame)
-}
-
-/// Puts the words of a packet's line before its end, which is that of the text: what its frame is called, or nothing
-/// where that is empty, and what it is where it can't be read. Fails only if memory is refused: then all but that end
-/// still stands.
-pub fn add_packet_words(
-    text: &mut Vec<u8>,
-    frame: &[u8],
-    fault: Option<SegFault>,
-) -> Result<(), AllocError>
-    requires { 0 < length text.old.items }
-    ensures words { OnOk result (text.new.items
-        ≡ with_words (frame_words frame.now ++ if_there fault_words fault) text.old.items) }
-    ensures kept { KeepsButEnd text.old text.new }
-{
-    let frame = frame_word(frame);
-    let fault = fault_word(fault);
-    add_words(text, &[frame, fault])
 }

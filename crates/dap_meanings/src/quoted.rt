@@ -4,7 +4,7 @@ ghost use Rattle.std.specs.Prelude.{◌≡◌, OnOk, take};
 ghost use Rattle.std.specs.List.{flat_map, list_all};
 ghost use Rattle.texts.specs.Adding.{Adds, StillBegins};
 ghost use Rattle.dap_meanings.specs.Quoted.{closing, escaped_byte, max_quoted, is_printable as printable, quote, quoted_bytes as quoted_words};
-ghost use Rattle.dap_meanings.specs.Inner.Words.{word_list};
+ghost use Rattle.dap_meanings.specs.Words.{word_list};
 
 use crate::words::Word;
 use std::alloc::AllocError;
@@ -21,7 +21,7 @@ fn is_printable(byte: u8) -> bool
 }
 
 /// Returns whether all bytes are printable.
-fn are_printable(bytes: &[u8]) -> bool
+pub fn are_printable(bytes: &[u8]) -> bool
     ensures { result ≡ list_all printable bytes.now }
 {
     for byte in bytes {

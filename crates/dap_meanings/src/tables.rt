@@ -5,45 +5,17 @@ ghost use Rattle.std.specs.Option.{option_map_or};
 ghost use Rattle.dap_meanings.specs.Tables as tables;
 ghost use Rattle.dap_meanings.specs.Tables.{word_in};
 ghost use Rattle.dap_meanings.specs.Meanings.{if_there};
-ghost use Rattle.dap_meanings.specs.Inner.Words.{entry_of, word_list};
+ghost use Rattle.dap_meanings.specs.Words.{entry_of, named, word_list};
 
 use crate::words::Word;
 use dap_msg::codes;
 
 /// A number, and what it says.
 #[derive(Clone, Copy)]
-struct Entry {
-    number: u16,
-    word: &'static str,
+pub struct Entry {
+    pub number: u16,
+    pub word: &'static str,
 }
-
-/// MSGFLG (NSP 4.0.0, message formats): the packets that set up a link and take it down.
-const CONTROL_PACKETS: [Entry; 6] = [
-    Entry {
-        number: 0x08,
-        word: "no operation",
-    },
-    Entry {
-        number: 0x18,
-        word: "connect initiate",
-    },
-    Entry {
-        number: 0x28,
-        word: "connect confirm",
-    },
-    Entry {
-        number: 0x38,
-        word: "disconnect initiate",
-    },
-    Entry {
-        number: 0x48,
-        word: "disconnect confirm",
-    },
-    Entry {
-        number: 0x68,
-        word: "connect initiate again",
-    },
-];
 
 /// OSTYPE (DAP 5.6.0, Configuration message). All but 7 are from memory.
 const SYSTEMS: [Entry; 10] = [
@@ -431,22 +403,25 @@ const STATUS_KINDS: [Entry; 10] = [
 ];
 
 /// Returns the word of a number, if the table has one.
-fn word_of(table: &[Entry], number: u16) -> Word<'static>
-    ensures { word_list result ≡ word_in (map entry_of table.now) number }
+pub fn find(table: &[Entry], number: u16) -> Option<&'static str>
+    ensures { if_there named result ≡ word_in (map entry_of table.now) number }
 {
     for entry in table {
         if entry.number == number {
-            return Word::Named(entry.word);
+            return Some(entry.word);
         }
     }
-    Word::Nothing
+    None
 }
 
-/// Returns the word of a packet's first byte.
-pub(crate) fn control_packet(flag: u8) -> Word<'static>
-    ensures { word_list result ≡ word_in tables.control_packets flag }
+/// Returns what a number says, if the table has a word of it.
+pub fn word_of(table: &[Entry], number: u16) -> Word<'static>
+    ensures { word_list result ≡ word_in (map entry_of table.now) number }
 {
-    word_of(&CONTROL_PACKETS, u16::from(flag))
+    match find(table, number) {
+        Some(word) => Word::Named(word),
+        None => Word::Nothing,
+    }
 }
 
 /// Returns the word of OSTYPE.

@@ -5,7 +5,7 @@ ghost use Rattle.std.specs.List.{flat_map};
 ghost use Rattle.dap_msg.specs.Codes.{asks_for};
 ghost use Rattle.texts.specs.Adding.{Adds, StillBegins};
 ghost use Rattle.dap_meanings.specs.Meanings.{right_text, rights_text, rights_words, words_text, with_words, KeepsButEnd};
-ghost use Rattle.dap_meanings.specs.Inner.Words.{word_list, said_text};
+ghost use Rattle.dap_meanings.specs.Words.{word_list, said_text};
 
 use crate::quoted::push_quote;
 use dap_msg::FileAccess;
@@ -14,7 +14,7 @@ use texts::{push_number, push_str};
 
 /// What a field says.
 #[derive(Clone, Copy)]
-pub(crate) enum Word<'a> {
+pub enum Word<'a> {
     /// Nothing in words.
     Nothing,
     /// The name of a number.
@@ -27,6 +27,14 @@ pub(crate) enum Word<'a> {
     Rights(u32),
     /// A text as it is.
     Frame(&'a [u8]),
+    /// A name after a word.
+    Known(&'static str, &'static str),
+    /// The number of an object after a word.
+    Object(&'static str, u8),
+    /// Bytes as text after a word.
+    Called(&'static str, &'a [u8]),
+    /// The number of a reason for which a link is refused or closed.
+    Reason(u16),
 }
 
 /// Returns what FAC says: the operations for which a file is opened, if there are any.
@@ -84,6 +92,19 @@ fn push_word(text: &mut Vec<u8>, word: Word<'_>) -> Result<(), AllocError>
             push_rights(text, fac)
         }
         Word::Frame(bytes) => text.extend_from_slice(bytes),
+        Word::Known(before, name) => {
+            push_str(text, before)?;
+            push_str(text, name)
+        }
+        Word::Object(before, number) => {
+            push_str(text, before)?;
+            push_number(text, "object ", number)
+        }
+        Word::Called(before, name) => {
+            push_str(text, before)?;
+            push_quote(text, name)
+        }
+        Word::Reason(number) => push_number(text, "reason ", number),
     }
 }
 
@@ -108,7 +129,7 @@ fn push_told(text: &mut Vec<u8>, words: &[Word<'_>]) -> Result<(), AllocError>
 
 /// Puts words before the end of a text's last line.
 #[tactic(auto, unfolding(texts::specs::Adding::StillBegins, crate::specs::Meanings::KeepsButEnd))]
-pub(crate) fn add_words(text: &mut Vec<u8>, words: &[Word<'_>]) -> Result<(), AllocError>
+pub fn add_words(text: &mut Vec<u8>, words: &[Word<'_>]) -> Result<(), AllocError>
     requires { 0 < length text.old.items }
     ensures words { OnOk result
         (text.new.items ≡ with_words (flat_map word_list words.now) text.old.items) }

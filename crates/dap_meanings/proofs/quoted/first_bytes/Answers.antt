@@ -1,4 +1,4 @@
-use Rattle.std.proofs.Common.{◌≡◌, ◌≤◌, take, length, sym, arith, length-take}
+use Rattle.std.proofs.Common.{sym, arith, length-take}
 use Rattle.std.proofs.lemmas.List.{take_all}
 use Rattle.dap_meanings.specs.Quoted.{max_quoted}
 use Rattle.dap_meanings.proofs.quoted.first_bytes.Goals as goal

@@ -1,4 +1,4 @@
-use Rattle.std.proofs.Common.{◌≡◌, ◌++◌, ◌∙◌, sym, List, ℕ}
+use Rattle.std.proofs.Common.{◌++◌, ◌∙◌, List, ℕ}
 use Rattle.std.specs.Prelude.{codes}
 use Rattle.std.proofs.lemmas.Result.{on_ok_weaker}
 use Rattle.dap_msg.specs.Codes.{fac_bits}

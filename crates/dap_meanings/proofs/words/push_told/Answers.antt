@@ -1,7 +1,7 @@
-use Rattle.std.proofs.Common.{◌≡◌, ◌++◌, ◌∷◌, [], List, ℕ, ◌∙◌, ap, sym, take, get_or, subst}
+use Rattle.std.proofs.Common.{◌++◌, List, ℕ, ◌∙◌, ap, sym, take, get_or}
 use Rattle.std.specs.List.{flat_map}
 use Rattle.dap_meanings.specs.Meanings.{words_text}
-use Rattle.dap_meanings.specs.Inner.Words.{word_list, said_text}
+use Rattle.dap_meanings.specs.Words.{word_list, said_text}
 use Rattle.dap_meanings.specs.declared.words.Word.TheVariants.{Nothing}
 use Rattle.dap_meanings.proofs.ToldLemmas.{mark_after, mark-more, told_more, words_more}
 use Rattle.dap_meanings.proofs.words.push_told.Goals as goal

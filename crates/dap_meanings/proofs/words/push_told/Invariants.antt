@@ -1,7 +1,7 @@
 use Rattle.std.proofs.Common.{◌≡◌, ◌++◌, take}
 use Rattle.std.specs.List.{flat_map}
 use Rattle.dap_meanings.specs.Meanings.{words_text}
-use Rattle.dap_meanings.specs.Inner.Words.{word_list}
+use Rattle.dap_meanings.specs.Words.{word_list}
 use Rattle.dap_meanings.proofs.ToldLemmas.{mark_after}
 use Rattle.dap_meanings.proofs.words.push_told.Given as goal
 

@@ -1,2 +1,0 @@
--- What only the contracts of private functions cite, and proofs: nobody has to believe it.
-pub mod Words
