@@ -22,7 +22,7 @@ import contextlib
 import os
 import sys
 
-from decnet import log, manager, nsp, program
+from decnet import log, manager, naming, nsp, program
 from decnet import words as command
 from decnet.address import node_text
 from decnet.client import Client, InputFault, Requests
@@ -66,6 +66,8 @@ def serve(words, opened):
     node.start()
     where = words.interface or node.wire.name
     log.say(str(entry))
+    if words.names == command.VERSIONS:
+        log.say(f"a file that is made anew is its next version ({naming.line_of(words)[2:]})")
     log.say(f"node {node_text(words.node)} on {where}: takes links to object {nsp.FAL}")
     manager.tell(manager.READY)
     for link in left:

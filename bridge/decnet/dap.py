@@ -1,6 +1,8 @@
 """As much of DAP 5.6.0 as names messages, and says which may change files, and which answer says that a file is closed; and the
 fields of an Attributes message."""
 
+import contextlib
+
 from decnet import tables
 from decnet.messages import ATTRIBUTES, BITS, MORE
 
@@ -9,10 +11,13 @@ NAMES = {1: "Configuration", 2: "Attributes", 3: "Access", 4: "Control", 5: "Con
          7: "Access Complete", 8: "Data", 9: "Status"}
 HARMLESS = frozenset({1, 2, 5, 6, 9, *range(10, 17)})  # types of messages that change no file
 OPEN = b"\1"  # ACCFUNC of an Access that makes no file
+CREATE = bytes(number for number, word in tables.ACCFUNC.items() if word == "create")
 ERASE = bytes(number for number, word in tables.ACCFUNC.items() if word == "erase")
 READING = frozenset({b"\1", b"\2", b"\6"})  # CTLFUNC: get, connect, rewind
 CLOSE, RESPONSE, END_OF_STREAM = b"\1", b"\2", b"\4"  # CMPFUNC
 STREAM_ID, LENGTH, LONG_LENGTH = 1, 2, 4  # FLAGS
+MAX_LENGTH = 0xFFFF  # of an operand
+ACCOPT, MAX_NAME = 5, 255  # the most bytes of an Access's options and name
 
 
 class Unread(Exception):
@@ -105,6 +110,44 @@ def may_change(body):
 def may_store(body):
     """Whether they may be one by which files need more space: each that may change files, but for one that erases a file."""
     return not are_all(lambda kind, operand: is_harmless(kind, operand) or (kind, operand[:1]) == (ACCESS, ERASE), body)
+
+
+def begun(body):
+    """The type and the operand of each DAP message in the bytes with which an NSP message begins; what is missing of the last one is
+    taken for zeros."""
+    try:
+        return list(messages(body))
+    except Unread:
+        return list(messages(body + bytes(MAX_LENGTH)))
+
+
+def names_asked(func, body):
+    """The names in Accesses with this ACCFUNC, in the bytes with which an NSP message begins, as far as these can be read."""
+    names = []
+    with contextlib.suppress(Unread):
+        for kind, operand in begun(body):
+            if kind == ACCESS and operand[:1] == func:
+                _, at = take_extensible(operand, 1, ACCOPT)
+                names.append(take_field(operand, at, "image", MAX_NAME)[0])
+    return names
+
+
+def names_erased(body):
+    """The names of files that requests ask to erase."""
+    return names_asked(ERASE, body)
+
+
+def name_made(body):
+    """The name of the file that a request asks to make; None where none does."""
+    return next(iter(names_asked(CREATE, body)), None)
+
+
+def says_opened(body):
+    """Whether the bytes of a whole NSP message have the Attributes of a file that is open."""
+    try:
+        return any(kind == ATTRIBUTES for kind, _ in messages(body))
+    except Unread:
+        return False
 
 
 def may_be_kept(body):

@@ -14,6 +14,7 @@ import functools
 import hashlib
 import os
 import re
+from dataclasses import dataclass
 
 from decnet import dap, messages, tables
 from decnet.directory import Directory, shown
@@ -28,7 +29,8 @@ STREAMS = tuple(number for number, word in tables.RFM.items() if word.startswith
 BIT_OF = {word: bit for bit, word in tables.RAT.items()}
 LINE, BLOCKS = 1 << BIT_OF["CR"], 1 << BIT_OF["BLK"]  # RAT: a record is a line; it may not span blocks
 OF_HOST = messages.attributes(rat=LINE).hex()  # what is kept with a text of the host
-TEXT_NOTE, NOTE_FORM = "# text ", re.compile(r"# text (-|(?:[0-9a-f]{2})+) ([0-9a-f]{64}) (-|(?:[0-9a-f]{2})+)")
+TEXT_NOTE = "# text "
+NOTE_FORM = re.compile(r"# text (-|(?:[0-9a-f]{2})+) ([0-9a-f]{64}) (-|(?:[0-9a-f]{2})+)(?: ([1-9][0-9]{0,4}))?")
 HIDDEN = b"."
 DROP = "drop "  # how a line begins that removes a file
 EDITED = b".host"  # after the name of a file that somebody edited meanwhile
@@ -38,6 +40,19 @@ MAX_TOLD = 5  # files that aren't served, by name
 MAX_REMEMBERED = 64  # attributes of which it is remembered whether they are a text's
 NAME_TAKEN = "refused 4000 1"  # a live end has a file of that name
 NO_FILE = "refused 4032 0"  # a live end refused the file of a record
+
+
+@dataclass(frozen=True)
+class Note:
+    """What is known of a text by its lines: their digest, what a link made it with, in hex, and the number of its version."""
+
+    digest: bytes
+    kept: str
+    number: int = 0  # where there are versions
+
+    def line(self, name):
+        """The comment that says so."""
+        return f"{TEXT_NOTE}{digits(name)} {self.digest.hex()} {self.kept or '-'}" + (f" {self.number}" if self.number else "")
 
 
 def digits(data):
@@ -139,21 +154,38 @@ def files_in(lines):
     return files
 
 
+def open_others(directory):
+    """Opens OTHERS; None where there is none, and a KeptFault where it can't be read or is no plain file."""
+    if directory.find(OTHERS) is None:
+        return None
+    kind = directory.kind_of(OTHERS)
+    if kind:
+        raise KeptFault(f"{directory.path_to(OTHERS)}: it is {kind}, and no plain file")
+    try:
+        return directory.open(OTHERS)
+    except TextFault as fault:
+        raise KeptFault(str(fault), of_machine=True) from fault
+
+
 class Folder:
     """A folder that is served, and what is known of each file in it."""
 
-    def __init__(self, path):
-        """A KeptFault where it is no folder that can be written, or another bridge serves it."""
-        self.directory = Directory(path)
-        self.path = self.directory.path
+    AGAIN = b".%d"  # what is after a name that is taken
+    TAKEN = "another file has this name"  # why a live end refuses a file
+
+    def __init__(self, place, head=None, is_due=False):
+        """`place` is a path, or a folder that is locked already; `head` says in OTHERS how names are compared, if it is still to be
+        written where that `is_due`. A KeptFault where it is no folder that can be written, or another bridge serves it."""
+        self.directory = place if isinstance(place, Directory) else Directory(place)
+        self.path, self.head = self.directory.path, head
         self.known = {}  # by name: the digest of the records that are on the disk, and the state of the file that has them
         self.left = {}  # by name: the state of a file that isn't served as it is now, which was told
         self.made = set()  # names of files that weren't here before a link made them
         self.served = set()  # names of files that a live end was given at first, or had when it listed them last
         self.alike = set()  # of these the ones that a live end refused: another file has the name
         self.kept = {}  # by the name of a file in OTHERS: the state of the file of this host that it stands in for, or None
-        self.others, self.is_due = [], False  # the lines that are in OTHERS; whether it is still to be written
-        self.notes = {}  # by the name of a text, in OTHERS: the digest of its records, and what a link made it with, in hex
+        self.others, self.is_due = [], is_due  # the lines that are in OTHERS; whether it is still to be written
+        self.notes = {}  # by the name of a text, in OTHERS: its Note
         self.unserved = {}  # by the name of a file in OTHERS that a live end refused: its lines
         self.given = ()  # the names of the files that a live end was given last
         self.told = []  # what is to be said
@@ -173,11 +205,8 @@ class Folder:
     def lines(self):
         """The files of this host, and after them those in OTHERS."""
         others = self.read_others()
-        for name in self.directory.names():
-            self.directory.clear(name)
-        for name in self.directory.names():
-            if is_host_name(name) and not self.directory.kind_of(name):
-                yield from self.changes_of(name)
+        for name in self.names_here():
+            yield from self.changes_of(name)
         self.tell_count()
         self.served = set(self.known)
         self.kept = dict.fromkeys(name for name, _ in files_in(others))
@@ -186,6 +215,10 @@ class Folder:
         self.kept.update((name, self.left[name]) for name in self.kept.keys() & self.left.keys())
         self.try_to_write_others(others)
         yield from others
+
+    def names_here(self):
+        """The names of the plain files that may be served."""
+        return [name for name in self.directory.names() if is_host_name(name) and not self.directory.kind_of(name)]
 
     def tell_count(self):
         """Says what is served, and what isn't."""
@@ -197,17 +230,13 @@ class Folder:
             self.told.append(f"{self.path}: not served: {', '.join(others[:MAX_TOLD] + more)}")
 
     def read_others(self):
-        """The lines in OTHERS; a KeptFault where they aren't whole, or it is no plain file."""
-        if self.directory.find(OTHERS) is None:
-            return []
-        kind = self.directory.kind_of(OTHERS)
-        if kind:
-            raise KeptFault(f"{self.path_to(OTHERS)}: it is {kind}, and no plain file")
-        try:
-            file = self.directory.open(OTHERS)
-        except TextFault as fault:
-            raise KeptFault(str(fault), of_machine=True) from fault
-        self.others = [line for _, line in read_lines(self.path_to(OTHERS), file, self.read_note)]
+        """The lines in OTHERS; a KeptFault where they aren't whole, or it is no plain file. What a bridge that was killed had begun
+        to write is removed."""
+        for name in self.directory.names():
+            self.directory.clear(name)
+        file = open_others(self.directory)
+        if file is not None:
+            self.others = [line for _, line in read_lines(self.path_to(OTHERS), file, self.read_note)]
         return self.others
 
     def read_note(self, number, line):
@@ -218,12 +247,12 @@ class Folder:
         kept = found[3].replace("-", "") if found else ""
         if not found or why_no_lines(attributes_of(kept)):
             raise KeptFault(f"{self.path_to(OTHERS)}: line {number}: not what is kept with a text")
-        self.notes[bytes_in(found[1])] = (bytes.fromhex(found[2]), kept)
+        self.notes[bytes_in(found[1])] = Note(bytes.fromhex(found[2]), kept, int(found[4] or 0))
 
     def attributes(self, name, digest):
         """The attributes of a text of which the records have this digest."""
-        noted, kept = self.notes.get(name, (None, None))
-        return attributes_of(kept if noted == digest else OF_HOST)
+        note = self.notes.get(name)
+        return attributes_of(note.kept if note and note.digest == digest else OF_HOST)
 
     def read(self, name):
         """The records of a file, and its state before they were read."""
@@ -245,20 +274,20 @@ class Folder:
             for name in self.given if answer != NO_FILE else ():
                 self.leave(name)
             return answer == NO_FILE
-        name = name_in(line)
-        self.leave(name)
+        name = self.leave(name_in(line))
         if answer == NAME_TAKEN:
             self.alike.add(name)
             where = "it stays in .daplive, and " if name in self.unserved else ""
-            self.told.append(f"{self.path_to(name)}: another file has this name: {where}it isn't served")
+            self.told.append(f"{self.path_to(name)}: {self.TAKEN}: {where}it isn't served")
         return answer == NAME_TAKEN
 
     def leave(self, name):
-        """Leaves a file alone that the live end may not have, or not all of: what stands on the disk stays there."""
+        """Leaves a file alone that the live end may not have, or not all of: what stands on the disk stays there. Its name here."""
         if self.known.pop(name, None):
             self.left[name] = self.directory.state_of(name)
         elif name in self.kept:
             self.unserved[name] = dict(files_in(self.others)).get(name, [])
+        return name
 
     # ---- what somebody else does
 
@@ -268,12 +297,9 @@ class Folder:
         lines = []
         try:
             self.directory.check_there()
-            there = {name for name in self.directory.names() if is_host_name(name) and not self.directory.kind_of(name)}
-            self.forget(there)
-            for name in sorted(self.known.keys() - there):
-                lines.append(f"{DROP}{digits(name)}")
-                del self.known[name]
-            for name in sorted(there):
+            there = self.names_here()
+            lines += [self.dropped(name) for name in self.forget(set(there))]
+            for name in there:
                 lines += self.changes_of(name)
         except OSError as fault:
             self.told.append(f"{os.fsdecode(fault.filename or self.path)}: {fault.strerror}")
@@ -281,18 +307,26 @@ class Folder:
         return lines
 
     def forget(self, there):
-        """Forgets what was told of files that are gone; where one that was served is gone, another may have its name now."""
-        if self.known.keys() - there:
+        """Forgets what was told of files that are gone; where one that was served is gone, another may have its name now. The names of
+        those that a live end has yet."""
+        gone = sorted(self.known.keys() - there)
+        if gone:
             self.left = {name: state for name, state in self.left.items() if name not in self.alike}
             self.alike.clear()
         self.left = {name: state for name, state in self.left.items() if name in there}
         self.kept = {name: state if name in there else None for name, state in self.kept.items()}
+        return gone
+
+    def dropped(self, name):
+        """The line by which a live end forgets a file that is known."""
+        del self.known[name]
+        return f"{DROP}{digits(name)}"
 
     def changes_of(self, name):
         """The same of a file that is here."""
         before, state_before = self.known.get(name, (None, None))
         state = self.directory.state_of(name)
-        if state in (None, state_before, self.left.get(name), self.kept.get(name)):
+        if state in (None, state_before, self.left.get(name), self.stands_for(name)):
             return []
         try:
             records, state = self.read(name)
@@ -302,11 +336,19 @@ class Folder:
             self.told.append(f"{fault}: it is served as it was" if is_served else f"{fault}: it isn't served")
             return []
         self.left.pop(name, None)
-        self.known[name] = (digest_of(records), state)
-        if self.known[name][0] == before:
-            return []
-        lines = [] if before is None and name not in self.kept else [f"{DROP}{digits(name)}"]
-        lines += lines_of_file(name, self.attributes(name, self.known[name][0]), enumerate(records, 1))
+        digest = digest_of(records)
+        lines = self.lines_to_give(name, digest, records) if digest != before else []
+        self.known[name] = (digest, state)
+        return lines
+
+    def stands_for(self, name):
+        """The state of a file here for which links see a kept one; None where they don't."""
+        return self.kept.get(name)
+
+    def lines_to_give(self, name, digest, records):
+        """The lines by which a live end has a file that is new here or has changed."""
+        lines = [] if name not in self.known and name not in self.kept else [f"{DROP}{digits(name)}"]
+        lines += lines_of_file(name, self.attributes(name, digest), enumerate(records, 1))
         return lines + (self.give_beside(name) if name in self.kept else [])
 
     # ---- what links put in the place of a file of this host
@@ -322,7 +364,7 @@ class Folder:
         number, put = 1, name + PUT
         while put in self.kept or self.directory.find(put):
             number += 1
-            put = name + PUT + b".%d" % number
+            put = name + PUT + self.AGAIN % number
         del self.kept[name]
         self.kept[put] = None
         self.told.append(f"{self.path_to(name)}: it is served as it is here; what links had put in its place is {shown(put)} now")
@@ -364,7 +406,7 @@ class Folder:
         number, other = 1, name + EDITED
         while self.directory.find(other):
             number += 1
-            other = name + EDITED + b".%d" % number
+            other = name + EDITED + self.AGAIN % number
         self.directory.rename(name, other)
         self.told.append(f"{self.path_to(name)}: {why}: that is {self.path_to(other)} now")
 
@@ -373,8 +415,8 @@ class Folder:
         if (lines, notes) == (self.others, self.notes) and not self.is_due:
             return
         count = sum(line.startswith(FILE) for line in lines)
-        noted = [f"{TEXT_NOTE}{digits(name)} {digest.hex()} {kept or '-'}" for name, (digest, kept) in sorted(notes.items())]
-        text = "\n".join([HEAD, *noted, *lines, MARK.format(count, len(lines)), ""])
+        comments = [HEAD, *([self.head] if self.head else []), *(notes[name].line(name) for name in sorted(notes))]
+        text = "\n".join([*comments, *lines, MARK.format(count, len(lines)), ""])
         self.directory.write(OTHERS, text.encode())
         self.others, self.notes, self.is_due = lines, notes, False
 
@@ -389,7 +431,7 @@ class Folder:
         stays = {name for name in self.notes.keys() - texts.keys()
                  if name in self.left or self.kept.get(name) or name in self.known and name not in erased}
         notes = {name: self.notes[name] for name in stays}
-        return notes | {name: note for name, note in texts.items() if note[1] != OF_HOST}
+        return notes | {name: note for name, note in texts.items() if note.kept != OF_HOST}
 
     def why_kept(self, name, attributes, records):
         """Why a file of a link can't be one of this host; nothing where it can."""
@@ -408,7 +450,7 @@ class Folder:
         for name, attributes, numbered in files:
             records = [record for _, record in numbered]
             if self.is_as_known(name, attributes, records):
-                notes[name] = (self.known[name][0], kept_of(attributes))
+                notes[name] = Note(self.known[name][0], kept_of(attributes))
                 continue
             why = "" if name in self.kept else self.why_kept(name, attributes, records)
             if why:
@@ -417,7 +459,7 @@ class Folder:
                 others += lines_of_file(name, attributes, numbered)
             else:
                 texts[name] = records
-                notes[name] = (digest_of(records), kept_of(attributes))
+                notes[name] = Note(digest_of(records), kept_of(attributes))
         for name, records in texts.items():
             self.write_text(name, records)
         self.write_others(others, self.notes_after({name for name, _, _ in files}, notes))
@@ -455,6 +497,10 @@ class Folder:
         """What takes the answer to `files`, and writes it back."""
         return FolderListing(self, then)
 
+    def heard(self, links):
+        """What links did besides doesn't matter where a file has one version."""
+        return False
+
     def close(self):
         self.directory.close()
 
@@ -464,6 +510,9 @@ class FolderListing:
 
     def __init__(self, folder, then):
         self.folder, self.then, self.fault, self.files = folder, then, None, []
+
+    def heard(self, links):
+        return self.folder.heard(links)
 
     def told(self):
         """What is to be said of it, once."""

@@ -140,6 +140,11 @@ class Journal(LockedFile):
     def is_empty(self):
         return not self.parsed.lines
 
+    @property
+    def has_no_files(self):
+        """Whether it has nothing but its head."""
+        return len(self.parsed.lines) < 2
+
     def check_begun(self):
         """A fault where the file is something else."""
         if self.is_empty:
@@ -285,6 +290,10 @@ class Renewal:
             self.fault = fault_of(self.journal.path, fault)
         except KeptFault as fault:
             self.fault = fault
+
+    def heard(self, links):
+        """What links did meanwhile doesn't matter here."""
+        return False
 
     def told(self):
         return []

@@ -10,6 +10,7 @@ import hashlib
 import os
 import socket
 import threading
+from dataclasses import dataclass, field
 
 from decnet import log
 from decnet.locked import ENCODING, KeptFault, LockedFile, fault_of
@@ -68,9 +69,11 @@ def check_lines(path, lines, note):
 class KeptFile(LockedFile):
     """A file that is kept. While it is, no other bridge keeps it, and nobody else may change it."""
 
-    def __init__(self, path, loaded=None):
+    def __init__(self, path, loaded=None, head=None):
         """`loaded` is the file from which the files come; where it isn't this one, this one has to be empty or missing.
-        A fault where it is no plain file, is kept by another bridge, or can't be written anew."""
+        `head` is a comment that is written at its beginning. A fault where it is no plain file, is kept by another bridge,
+        or can't be written anew."""
+        self.head = head
         self.digest = None  # of what was saved last
         super().__init__(path, MODE)
         try:
@@ -128,7 +131,7 @@ class Listing:
         self.beside = self.file = None
         with self.keeping_fault():
             self.beside, self.file = kept.begin_beside()
-            self.file.write(f"{HEAD}\n")
+            self.file.write(f"{HEAD}\n" + (f"{kept.head}\n" if kept.head else ""))
 
     @contextlib.contextmanager
     def keeping_fault(self):
@@ -139,6 +142,10 @@ class Listing:
             self.fault = fault_of(self.kept.path, fault)
         except KeptFault as fault:
             self.fault = fault
+
+    def heard(self, links):
+        """What links did meanwhile doesn't matter here."""
+        return False
 
     def told(self):
         return []
@@ -180,24 +187,41 @@ class Listing:
                 os.unlink(self.beside)
 
 
+@dataclass
+class LinksDid:
+    """What links did with files, besides what a live end lists."""
+
+    erased: list = field(default_factory=list)  # names, as they were asked for, of files that they asked to erase
+    making: list = field(default_factory=list)  # names, as they were asked for, of files that they make, and haven't closed
+    lost: list = field(default_factory=list)  # the same of links that are closed
+
+
 class Keeper:
     """Saves the files of a live end, one save after another, while other things go on: a thread waits for the disk.
 
     Where they are kept gives a `listing`, which takes the lines of the answer to `files` and its end, and then calls what
-    it was given; `finish`, in the thread, lets the disk have them, `fault` says whether it has, and `told` what is to be
-    said then.
+    it was given; when it has `heard` what links did since the last save, it says whether another save is needed. `finish`,
+    in the thread, lets the disk have them, `fault` says whether it has, and `told` what is to be said then.
     """
 
     def __init__(self, kept, end, is_changed=False):
         self.kept, self.end, self.is_changed = kept, end, is_changed
+        self.making = lambda: []  # the names, as they were asked for, of files that links are making
+        self.links, self.before = LinksDid(), LinksDid()  # what they did since the last save, and before that one
         self.waiting = []  # who is told when the next save is over
         self.served = None  # who is told when this one is over; None where there is none
         self.failed = lambda fault: None  # who is told of a save that failed, besides
         self.listing = self.thread = None
         self.reading, self.writing = socket.socketpair()
 
-    def note_change(self):
+    def note_change(self, erased=()):
+        """Something may have changed, and files of these names, as they were asked for, may have been erased."""
         self.is_changed = True
+        self.links.erased += erased
+
+    def note_lost(self, name):
+        """A link was closed before the file that it made was."""
+        self.links.lost.append(name)
 
     @property
     def is_due(self):
@@ -216,11 +240,15 @@ class Keeper:
 
     def begin(self):
         self.served, self.waiting, self.is_changed = self.waiting, [], False
+        self.before, self.links = self.links, LinksDid()
         self.listing = self.kept.listing(self.listed)
         self.end.tell("files", self.listing)
 
     def listed(self, listing):
         """All of it was written; the disk may take long."""
+        self.before.making = self.making()
+        self.before.lost, self.links.lost = self.before.lost + self.links.lost, []
+        self.is_changed |= listing.heard(self.before)
         self.thread = threading.Thread(target=self.finish, args=(listing,), daemon=True)
         self.thread.start()
 
@@ -240,7 +268,8 @@ class Keeper:
             log.say(text)
         self.listing = self.served = None
         if fault:
-            self.is_changed = True
+            self.note_change(self.before.erased)
+            self.links.lost = self.before.lost + self.links.lost
             self.failed(fault)
         for then in served:
             then(fault)

@@ -200,6 +200,7 @@ class Link:
         self.is_data_wanted = True  # as the other end was told last
         self.has_changed = False  # whether anything came on it that may change files
         self.saves = 0  # saves that answers wait for
+        self.asked_for = self.making = None  # the name, as it was asked for, of a file that is to be made, and of one that is
         self.wanted_at = None  # when somebody wanted its slot or its file, since it was heard
         self.wanted_by = ""  # who, and what
         self.has_asked, self.is_wanted = False, False  # whether a segment was taken; whether somebody wanted it while none was
@@ -428,7 +429,9 @@ class Link:
             self.space.take(len(packet.body))
         if self.keeper:
             self.has_changed = True
-            self.keeper.note_change()
+            begins = packet.kind in nsp.FIRSTS
+            self.keeper.note_change(dap.names_erased(packet.body) if begins else ())
+            self.asked_for = (begins and dap.name_made(packet.body)) or self.asked_for
 
     def take_other(self, packet):
         for qualifier, number in packet.acks:
@@ -558,12 +561,22 @@ class Link:
         if packet.kind not in nsp.SEGMENTS:
             self.send(packet.whole)
             return
+        self.note_answer(packet.body)
         self.save_before(packet)
         was_held = packet.number in self.flow.held
         if self.flow.take(packet.number, packet.kind in nsp.LASTS, packet.whole):
             self.send(packet.whole)
         elif packet.acks and not was_held:
             self.send(nsp.data_ack(self.remote, self.local, *packet.acks[0]))
+
+    def note_answer(self, body):
+        """Takes note of the file that is made over this link, from the answer to its Access to that to its Access Complete."""
+        if self.asked_for is self.making is None:
+            return
+        if self.asked_for is not None and dap.says_opened(body):
+            self.making, self.asked_for = self.asked_for, None
+        if dap.says_closed(body):
+            self.making = self.asked_for = None
 
     def save_before(self, packet):
         """Begins a save where a packet says that a file is closed, and what this link may have changed isn't on the

@@ -47,6 +47,7 @@ class Kind(enum.IntEnum):
 
 
 SEGMENTS = frozenset({Kind.MIDDLE, Kind.FIRST, Kind.LAST, Kind.ONLY})
+FIRSTS = frozenset({Kind.FIRST, Kind.ONLY})  # the segments that begin a message
 LASTS = frozenset({Kind.LAST, Kind.ONLY})  # the segments that end a message
 DATA = SEGMENTS | {Kind.DATA_ACK}  # the data subchannel
 NUMBERED_OTHER = frozenset({Kind.LINK_SERVICE, Kind.INTERRUPT})

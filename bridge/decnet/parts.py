@@ -3,10 +3,12 @@ import dataclasses
 import os
 import re
 
-from decnet import frames, log, nsp, privileges, program, routing, udp, wire
+from decnet import frames, log, naming, nsp, privileges, program, routing, udp, wire
 from decnet.client import InputFault
+from decnet.directory import Directory
 from decnet.end import Answer, End, EndFault
-from decnet.folder import Folder
+from decnet.folder import OTHERS, Folder, open_others
+from decnet.folds import Folds
 from decnet.hostfile import HostFault
 from decnet.journal import Journal
 from decnet.kept import KeptFile, read_lines
@@ -17,8 +19,9 @@ from decnet.role import Signals, finish, run, wait_for
 from decnet.server import Entry, load, replay
 from decnet.stored import Store, StoredEnd, program_of
 from decnet.users import Guard, Users
+from decnet.versions import VersionsFolder
 from decnet.waiting import MOST, WINDOW
-from decnet.words import VERSIONS, fault_of_keep
+from decnet.words import EXACT, VERSIONS, fault_of_keep
 
 OF_END = ("window", "buffer", "ostype", "filesys", "syscap")  # options of a live end, as it has them
 OF_NAMES = ("names", "keep")
@@ -97,18 +100,36 @@ def tell_of_end(text):
 def keep_file(words):
     """Where the files are kept that are saved when one is closed; None where they aren't."""
     if words.folder is not None:
-        return Folder(words.folder)
+        return open_folder(words)
+    if words.store is None:
+        naming.settle_by_files(words)
     if words.save is None:
         return None
-    kept = KeptFile(words.save, words.files)
+    kept = KeptFile(words.save, words.files, naming.line_of(words) if words.names else None)
     if kept.is_new:
         log.say(f"{words.save}: a new file")
     return kept
 
 
+def open_folder(words):
+    """The folder of --folder, whose names are compared as `.daplive` says. A new one has versions."""
+    directory = Directory(words.folder)
+    try:
+        others = open_others(directory)
+        said = None if others is None else naming.said_in(others)
+        naming.settle(words, directory.path_to(OTHERS), said, VERSIONS if others is None else EXACT, keep=1)
+    except BaseException:
+        directory.close()
+        raise
+    kind = VersionsFolder if words.names == VERSIONS else Folder
+    return kind(directory, naming.line_of(words), is_due=said != naming.line_of(words))
+
+
 def load_files(words, kept, end, space, signals):
     """Gives a live end its files; whether some aren't yet where they are kept."""
     if words.folder is not None:
+        if words.names == VERSIONS:
+            kept.folds = Folds(End(words.daplive, ["serve", "--names", VERSIONS], told=tell_of_end))
         load(end, words.folder, kept.read_lines(), space, signals, kept)
         for text in kept.said():
             log.say(text)
@@ -124,6 +145,8 @@ def open_journal(words, opened):
     journal = opened(Journal(words.store, words.sync))
     if not journal.is_empty:
         go_on_as_made(words, journal)
+    if journal.has_no_files:
+        naming.settle_by_files(words)
     fault = fault_of_keep(words)
     if fault:
         raise program.Fault(fault, program.WORDS)
@@ -131,14 +154,14 @@ def open_journal(words, opened):
 
 
 def go_on_as_made(words, journal):
-    """Recalls all options where there are packets. Where the files alone are there it recalls how names are compared, if that is by
-    versions: without them nobody would find a file by its name."""
+    """Recalls all options where there are packets. Where the files alone are there it recalls how names are compared."""
     made_with = journal.made_with
     if journal.parsed.told:
         if recall(words, made_with):
             log.say(f"{words.store}: it has packets, and goes on with the options that it was made with: '{made_with}'")
-    elif options_in(made_with).get("names") == VERSIONS and recall(words, made_with, OF_NAMES):
-        log.say(f"{words.store}: it has versions of files, and goes on with {' '.join(spelled(words, OF_NAMES))}")
+    elif "names" in options_in(made_with) and recall(words, made_with, OF_NAMES) and words.names != EXACT:
+        what = "it has versions of files, and" if words.names == VERSIONS else "it"
+        log.say(f"{words.store}: {what} goes on with {' '.join(spelled(words, OF_NAMES))}")
 
 
 def options_in(made_with):

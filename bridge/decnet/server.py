@@ -52,6 +52,7 @@ class Server(Role):
             self.entry.guard.checked = self.checked
         if keeper:
             keeper.failed = self.save_failed
+            keeper.making = lambda: [link.making for link in self.links.values() if link.making is not None]
         if store:
             end.failed = self.store_failed
         self.stops = 0
@@ -163,6 +164,8 @@ class Server(Role):
             self.store.links_closed(is_last=self.stops > 0 or self.stop_after == 0)
         if self.space:
             self.space.link_closed()
+        if self.keeper and link.making is not None:
+            self.keeper.note_lost(link.making)
         self.save()
 
     def remember(self, source):

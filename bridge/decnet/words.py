@@ -19,7 +19,7 @@ from decnet.rights import are_rights
 from decnet.talks import Names, talks
 from decnet.texts import MAX_NUMBER, RECORD_LIMIT
 
-VERSIONS = "versions"  # the value of --names with which a file has versions
+KINDS_OF_NAMES = EXACT, FOLDED, VERSIONS = "exact", "folded", "versions"  # how names are compared; with the last one a file has versions
 MAX_VERSION = 32767
 PASSWORD_LIMIT = 65536
 SYSCAP = re.compile(r"[0-9A-Fa-f]{1,21}")
@@ -211,11 +211,12 @@ def add_keeping(parser):
 
 
 def add_names(parser):
-    parser.add_argument("--names", choices=("exact", "folded", VERSIONS),
+    parser.add_argument("--names", choices=KINDS_OF_NAMES,
                         help="whether DATA.TXT;1, [DIR]DATA.TXT and data.txt are one name: exact, no; folded, yes; versions, yes, and "
-                             "a file that is made anew is its next version (default exact)")
+                             "a file that is made anew is its next version (default versions, but what has files goes on as it was made)")
     parser.add_argument("--keep", type=number(1, MAX_VERSION), metavar="N",
-                        help="with --names versions: one more than this many of a file replaces the lowest, 1 to 32767 (default 3)")
+                        help="with --names versions: one more than this many of a file replaces the lowest, 1 to 32767 (default 3, with "
+                             "--folder 1)")
 
 
 def add_entry(parser):
@@ -531,10 +532,8 @@ def check(parser, words):
 
 
 def check_names(parser, words):
-    """The same of versions. A store that goes on with its names says later whether they have some."""
-    if words.names == VERSIONS and words.folder is not None:
-        parser.error("--names versions: not with --folder, which has one file of a name")
-    if words.names is not None or words.store is None:
+    """The same of versions. Where no names are asked for it is said later, by what keeps the files, whether they have some."""
+    if words.names is not None:
         fault = fault_of_keep(words)
         if fault:
             parser.error(fault)

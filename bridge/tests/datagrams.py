@@ -52,7 +52,7 @@ class UdpCase(Case):
     def serve(self, *words, program=PROGRAM, is_ready=True, **more):
         need_live_end(program)
         command = self.words("serve", self.near, self.far)
-        child = self.start([*command, "--daplive", program, *HASTE, *words], **more)
+        child = self.start([*command, "--daplive", program, *HASTE, *self.naming("serve", words), *words], **more)
         if is_ready:
             child.wait_for("takes links")
         return child

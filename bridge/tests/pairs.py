@@ -15,7 +15,7 @@ class PairCase(Case):
         """A bridge as a program, over a socket of this process."""
         need_live_end(program)
         node = SERVING if role == "serve" else ASKING
-        command = [*PYTHON, BRIDGE, role, "--frames", raw.fileno(), "--node", node, "--daplive", program, *words]
+        command = [*PYTHON, BRIDGE, role, "--frames", raw.fileno(), "--node", node, "--daplive", program, *self.naming(role, words), *words]
         return self.start(command, stdin=stdin, pass_fds=[raw.fileno()], **more)
 
     def ends(self):

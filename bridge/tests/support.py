@@ -134,6 +134,12 @@ class Child:
 class Case(unittest.TestCase):
     """A test with a folder of its own; the programs that it leaves running are ended, and their live ends with them."""
 
+    NAMES = ("--names", "exact")  # of a bridge that serves, where a test doesn't say it; most tests are about other things
+
+    def naming(self, role, words):
+        """These options, where they aren't among the words of a role."""
+        return self.NAMES if role == "serve" and "--names" not in words else ()
+
     def setUp(self):
         log.start("bridge", os.devnull)
         self.addCleanup(lambda: log.Standard.current.close())

@@ -40,8 +40,8 @@ class AttributesTest(Case):
 
 
 class TablesTest(Case):
-    FILES = ("tools/tables", "crates/dap_meanings/specs/Tables.antt", "crates/dap_msg/specs/Codes.antt", "crates/dap_msg/specs/Formats.antt",
-             "tools/wireshark/dap.lua", "bridge/decnet/tables.py")
+    FILES = ("tools/tables", "crates/dap_meanings/specs/Tables.antt", "crates/link_words/specs/Tables.antt",
+             "crates/dap_msg/specs/Codes.antt", "crates/dap_msg/specs/Formats.antt", "tools/wireshark/dap.lua", "bridge/decnet/tables.py")
 
     def tables(self, path, before, after):
         """What tools/tables says of a copy of its files in which one is altered."""
@@ -64,7 +64,8 @@ class TablesTest(Case):
         for path, before, after in ((table, '"rat": ("extensible", 3)', '"rat": ("extensible", 2)'), (formats, "menu 6 21", "menu 5 21"),
                                     (formats, "optional_part bits 3 (Extensible 3)", "optional_part bits 3 (Extensible 4)"),
                                     (formats, "fsz = (← optional_part bits 8 Byte)", "fsz = (← optional_part bits 8 Word)"),
-                                    (table, '1: "CR"', '0: "CR"')):
+                                    (table, '1: "CR"', '0: "CR"'),
+                                    ("crates/link_words/specs/Tables.antt", '(6, codes "busy")', '(7, codes "busy")')):
             self.assertEqual(self.tables(path, before, after), other, after)
         for before, after in (("menu 6 21", "menu 6 22"), ("bits 8 Byte", "bits 9 Byte"), ("bits 8 Byte", "bits 8 Long")):
             status, said = self.tables(formats, before, after)

@@ -88,7 +88,8 @@ class LinksCase(PairCase):
     def node(self, role, node, *words, program=PROGRAM, **more):
         """A bridge as a node before the hub."""
         far = self.hub.port()
-        command = [*PYTHON, BRIDGE, role, "--frames", far.fileno(), "--node", node, "--daplive", program, *HASTE, *words]
+        own = [*HASTE, *self.naming(role, words), *words]
+        command = [*PYTHON, BRIDGE, role, "--frames", far.fileno(), "--node", node, "--daplive", program, *own]
         child = self.start(command, pass_fds=[far.fileno()], **more)
         far.close()
         return child
@@ -264,6 +265,61 @@ class SharedTest(LinksCase):
             self.say(child, "hello", "report ready 8192")
         self.stop(server)
         self.assertEqual([child.finish() for child in clients], [1, 1])
+
+
+class FolderTest(LinksCase):
+    """A folder with versions: what a link makes of a file there, and hasn't closed, takes no place there."""
+
+    NAMES = ()
+    CREATE_F, CREATE_G = "create 46 0 2 0 0 15", "create 47 0 2 0 0 15"
+
+    def setUp(self):
+        super().setUp()
+        self.path = self.folder / "served"
+        self.path.mkdir()
+        (self.path / "f").write_text("old\n")
+
+    def texts(self):
+        return {one.name: one.read_text() for one in self.path.iterdir() if not one.name.startswith(".")}
+
+    def begun(self):
+        """A link makes a version of F, and another one has made G and closed it."""
+        server = self.server("--folder", self.path)
+        first, second = (self.client(node, "--go-on") for node in NODES[:2])
+        self.say(first, "hello", "report ready 8192", self.CREATE_F, OPENED, "connect", "report connected", "put 6e6577", "report done 1")
+        self.say(second, "hello", "report ready 8192", self.CREATE_G, OPENED, "connect", "report connected", "put 47", "report done 1")
+        self.say(second, "close", "report closed")
+        self.assertEqual(self.texts(), {"f": "old\n", "g": "G\n"})
+        return server, first, second
+
+    def test_it_is_there_when_it_is_closed(self):
+        server, first, second = self.begun()
+        self.say(first, "close", "report closed")
+        self.assertEqual(self.texts(), {"f": "new\n", "g": "G\n"})
+        for child in (first, second):
+            self.finish_asking(child)
+        self.stop(server)
+
+    def test_where_it_is_taken_back_the_file_there_is_served_again(self):
+        server, first, second = self.begun()
+        self.say(first, "purge", "report closed")
+        for child in (first, second):
+            self.finish_asking(child)
+        third = self.client(NODES[2])
+        self.say(third, "hello", "report ready 8192", "open 46 2", OPENED, "connect", "report connected", "get", "report found 1 6f6c64")
+        self.assertEqual(self.texts(), {"f": "old\n", "g": "G\n"})
+        third.end_input()
+        third.finish()
+        self.stop(server)
+
+    def test_where_its_link_is_lost_it_is_kept(self):
+        server, first, second = self.begun()
+        self.finish_asking(second)
+        first.finish(signal.SIGTERM)
+        server.wait_for("/F;2: its link was closed before it was: it is kept in .daplive, and ")
+        self.stop(server)
+        self.assertEqual(self.texts(), {"f": "old\n", "g": "G\n"})
+        self.assertEqual(file_lines(self.path / ".daplive"), ["file 463b32 seq variable 0 0", "  1 6e6577"])
 
 
 class StoreTest(LinksCase):

@@ -104,11 +104,13 @@ class WireTest(UdpCase):
 
     def ways(self):
         """Each way to keep files: its words at first, and at the next start."""
-        store, saved, folder = self.folder / "store", self.folder / "saved", self.folder / "served"
+        store, saved, folder, versions = (self.folder / name for name in ("store", "saved", "served", "versions"))
         folder.mkdir()
+        versions.mkdir()
         yield ["--store", store], ["--store", store]
         yield ["--save", saved], ["--files", saved, "--save", saved]
         yield ["--folder", folder], ["--folder", folder]
+        yield 2 * [["--folder", versions, "--names", "versions"]]
 
     def test_a_file_comes_back_as_it_was_made_after_a_stop_and_a_start(self):
         for first, then in self.ways():

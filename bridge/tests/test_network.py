@@ -103,7 +103,7 @@ class NetworkCase(Case):
     def bridge(self, role, *words, stdin=b"", node=None, **more):
         """A bridge, started."""
         node = node or (SERVING if role == "serve" else ASKING)
-        words = ["--interface", NETWORK.interfaces[node], "--node", node, "--daplive", PROGRAM, *words]
+        words = ["--interface", NETWORK.interfaces[node], "--node", node, "--daplive", PROGRAM, *self.naming(role, words), *words]
         return self.start([*PYTHON, BRIDGE, role, *words], stdin=stdin, namespace=NETWORK.names[node], **more)
 
     def serve(self, *words, **more):

@@ -107,6 +107,7 @@ class StartTest(StoreCase):
         asking.end()
 
     def test_options_that_are_not_given_are_those_that_it_was_made_with(self):
+        self.NAMES = ()
         made = ["--window", "9", "--buffer", "2048", "--waiting", "70000", "--names", "folded", "--links", "3"]
         child, asking = self.store(*made), self.asking()
         self.say(asking, "hello", "report ready 2048")
@@ -128,7 +129,7 @@ class StartTest(StoreCase):
         child = self.store("--buffer", "512")
         self.assertNotIn("made with", child.told())
         self.stop(child)
-        self.assertEqual(self.parsed().lines[0].partition(" serve ")[2], "--buffer 512 --links 16")
+        self.assertEqual(self.parsed().lines[0].partition(" serve ")[2], "--buffer 512 --names folded --links 16")
 
     def test_a_store_of_one_link_goes_on_with_one(self):
         """As one that a bridge before --links began."""
@@ -138,7 +139,7 @@ class StartTest(StoreCase):
         child = self.store()
         child.wait_for("goes on as it was")
         self.say(asking, "create 46 0 2 0 0 15", "report opened 0 2 0 0")
-        self.assertRegex(self.parsed().lines[0], r" serve --buffer 8192$")
+        self.assertRegex(self.parsed().lines[0], r" serve --buffer 8192 --names exact$")
         asking.end()
         self.stop(child)
 

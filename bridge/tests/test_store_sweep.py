@@ -122,7 +122,7 @@ class Bridges:
     def serve(self, step=0, *words):
         """A serving bridge that is killed at a step."""
         command = self.words("serve", self.near, self.far, SERVING)
-        more = ["--store", self.path, "--sync", self.sync, "--resend", "0.2", *words]
+        more = ["--store", self.path, "--sync", self.sync, "--resend", "0.2", "--names", "exact", *words]
         env = {**os.environ, "PYTHONPATH": str(BRIDGE.parent)}
         return Child(self.folder, [PYTHON[0], KILLED_AT, step, *command, *more], env=env)
 

@@ -1,9 +1,11 @@
 """Versions of files: what a copy makes and replaces, what a store keeps of them, and words that don't go together."""
 import getpass
+import shutil
 import signal
+import zlib
 
 from decnet import parts, privileges, words
-from decnet.journal import Parsed
+from decnet.journal import Parsed, encoded, mark_of
 from tests.support import Case, file_lines
 from tests.test_words import WordsCase
 
@@ -17,6 +19,8 @@ def lines(*files):
 
 
 class VersionsCase(WordsCase):
+    NAMES = ()
+
     def setUp(self):
         super().setUp()
         self.path = self.folder / "store"
@@ -135,7 +139,7 @@ class KeptTest(VersionsCase):
         self.assertEqual(self.made_with(), "--buffer 8192 --names exact --links 16")
 
     def test_a_store_without_versions_gets_them(self):
-        server = self.serve("--store", self.path)
+        server = self.serve("--store", self.path, "--names", "exact")
         self.copy(("A.TXT", "one"), ("[X]a.txt", "two"), ("B;7", "three"))
         self.stop(server)
         server = self.serve("--store", self.path)
@@ -158,6 +162,122 @@ class KeptTest(VersionsCase):
         self.assertEqual(file_lines(saved), lines(("DATA.TXT;3", "three"), ("DATA.TXT;4", "four")))
 
 
+class DefaultTest(VersionsCase):
+    """Without --names what begins with nothing has versions, and what has files goes on as it was made."""
+
+    SAID = "a file that is made anew is its next version (--names versions"
+
+    def refused(self, what, *some):
+        server = self.serve(*some, is_ready=False)
+        self.assertEqual(server.finish(), 2, server.told())
+        self.assertIn(what, server.told())
+        self.assertNotIn("Traceback", server.told())
+
+    def test_memory_has_versions(self):
+        server = self.serve()
+        self.assertIn(f" {self.SAID})\n", server.told())
+        self.copy(*(("A.TXT", text) for text in ("one", "two", "three", "four")))
+        self.assertEqual([self.typed(name) for name in ("a.txt", "A.TXT;2")], ["four\n", "two\n"])
+        self.assert_none("A.TXT;1")
+        self.stop(server)
+        server = self.serve("--keep", "1")
+        self.copy(("A", "one"), ("A", "two"))
+        self.assert_none("A;1")
+        self.stop(server)
+
+    def test_a_new_store_has_versions(self):
+        self.stop(self.serve("--store", self.path))
+        self.assertEqual(self.made_with(), "--buffer 8192 --names versions --links 16")
+        server = self.serve("--store", self.path)
+        self.copy(("A", "one"), ("A", "two"))
+        self.stop(server)
+        self.assertEqual(self.kept(), lines(("A;1", "one"), ("A;2", "two")))
+
+    def before(self):
+        """Takes the names out of the head of a store, which had none before there were versions."""
+        parsed = Parsed(self.path, self.path.read_bytes())
+        text = b"".join(encoded(line.replace(" --names exact", "")) for line in parsed.lines)
+        self.path.write_bytes(text + mark_of(0, zlib.crc32(text)))
+
+    def test_a_store_of_before_goes_on_exactly_where_it_has_files(self):
+        server = self.serve("--store", self.path, "--names", "exact")
+        self.copy(("A.TXT", "one"))
+        self.stop(server)
+        self.before()
+        server = self.serve("--store", self.path)
+        self.assertNotIn("versions", server.told())
+        self.assertEqual(self.typed("A.TXT"), "one\n")
+        self.assert_none("a.txt")
+        self.stop(server)
+        self.assertEqual((self.kept(), self.made_with()), (lines(("A.TXT", "one")), "--buffer 8192 --links 16"))
+        self.path.unlink()
+        self.stop(self.serve("--store", self.path, "--names", "exact"))
+        self.before()
+        self.stop(self.serve("--store", self.path))
+        self.assertEqual(self.made_with(), "--buffer 8192 --names versions --links 16", "it had no files")
+
+    def test_a_store_goes_on_with_the_names_that_it_was_made_with(self):
+        server = self.serve("--store", self.path, "--names", "folded")
+        self.copy(("A.TXT", "one"))
+        self.stop(server)
+        server = self.serve("--store", self.path)
+        self.assertIn(": it goes on with --names folded\n", server.told())
+        self.assertEqual(self.typed("[X]a.txt"), "one\n")
+        self.stop(server)
+        self.assertEqual(self.kept(), lines(("A.TXT", "one")))
+
+    def test_a_file_that_is_saved_says_its_names(self):
+        saved = self.folder / "saved"
+        server = self.serve("--save", saved)
+        self.copy(("A.TXT", "one"), ("A.TXT", "two"))
+        self.stop(server)
+        self.assertEqual(saved.read_text().splitlines()[:2], ["# kept by bridge.py", "# --names versions"])
+        both = ["--files", saved, "--save", saved]
+        server = self.serve(*both, "--keep", "2")
+        self.assertIn(f"{self.SAID} --keep 2)\n", server.told())
+        self.copy(("a.txt", "three"))
+        self.stop(server)
+        self.assertEqual(saved.read_text().splitlines()[1], "# --names versions --keep 2")
+        self.assertEqual(file_lines(saved), lines(("A.TXT;2", "two"), ("A.TXT;3", "three")))
+        self.refused(f"--names exact: {saved} says --names versions, which goes on; its files are carried over where its line "
+                     "'# --names versions --keep 2' is taken out", *both, "--names", "exact")
+
+    def test_a_file_of_before_goes_on_exactly(self):
+        for some in (["# kept by bridge.py", *lines(("A.TXT", "one")), "# end of files: 1 files, 2 lines"], lines(("A.TXT", "one")), []):
+            saved = self.file("saved", some)
+            both = ["--files", saved, "--save", saved]
+            server = self.serve(*both)
+            self.assertNotIn("versions", server.told())
+            self.copy(("a.txt", "two"))
+            self.stop(server)
+            self.assertEqual(file_lines(saved), [*(lines(("A.TXT", "one")) if some else []), *lines(("a.txt", "two"))])
+            self.assertNotIn("--names", saved.read_text())
+            self.refused("--keep 2: goes with --names versions alone", *both, "--keep", "2")
+
+    def test_a_new_folder_has_versions_and_one_of_before_none(self):
+        served = self.folder / "served"
+        for line, name in ((None, "new.txt"), ("# kept by bridge.py\n# end of files: 0 files, 0 lines\n", "NEW.TXT"), ("", "NEW.TXT")):
+            served.mkdir()
+            (served / "a.txt").write_text("one\n")
+            if line is not None:
+                (served / ".daplive").write_text(line)
+            for _ in range(2):
+                server = self.serve("--folder", served)
+                self.copy((name, "two"))
+                self.assertEqual((self.typed("a.txt"), (served / name).read_text()), ("one\n", "two\n"))
+                self.stop(server)
+                self.assertEqual(f"{self.SAID} --keep 1)\n" in server.told(), line is None)
+                if line is not None:
+                    self.assert_exact(served)
+                    break
+            shutil.rmtree(served)
+
+    def assert_exact(self, served):
+        """It has said so since, and says so once more."""
+        self.assertIn("# --names exact\n", (served / ".daplive").read_text())
+        self.refused("--names versions: ", "--folder", served, "--names", "versions")
+
+
 class WordsTest(Case):
     def mistake(self, what, *line):
         with self.assertRaises(words.Mistake) as caught:
@@ -174,9 +294,8 @@ class WordsTest(Case):
         self.assertEqual(self.told("--names", "versions", "--keep", "32767")[-4:], ["--keep", "32767", "--links", "16"])
 
     def test_words_that_do_not_go_together(self):
-        for names in ([], ["--names", "exact"], ["--names", "folded"], ["--names", "folded", "--store", "f"]):
+        for names in (["--names", "exact"], ["--names", "folded"], ["--names", "folded", "--store", "f"]):
             self.mistake("--keep 3: goes with --names versions alone", "--keep", "3", *names)
-        self.mistake("--names versions: not with --folder, which has one file of a name", "--names", "versions", "--folder", "d")
         for number in ("0", "32768", "-1", "x", "1.5", ""):
             self.mistake(f"argument --keep: {number} is no number from 1 to 32767", "--names", "versions", f"--keep={number}")
 
@@ -199,10 +318,11 @@ class WordsTest(Case):
 class StartTest(VersionsCase):
     def test_words_that_do_not_go_together_end_with_2(self):
         """With a store, too, unless that has versions."""
-        for some in (["--keep", "3"], ["--keep", "3", "--store", self.path], [*KEEPING_TWO, "--folder", self.folder]):
+        self.stop(self.serve("--store", self.path, "--names", "exact"))
+        for some in (["--keep", "3", "--names", "exact"], ["--keep", "3", "--store", self.path]):
             server = self.serve(*some, is_ready=False)
             self.assertEqual(server.finish(), 2)
-            self.assertRegex(server.told(), "--keep 3: goes with --names versions alone|--names versions: not with --folder")
+            self.assertIn("--keep 3: goes with --names versions alone", server.told())
             self.assertNotIn("Traceback", server.told())
 
     def test_as_a_user(self):
