@@ -40,8 +40,9 @@ impl Accessed {
     /// Adds a file without records after the others, before the peer's Config was served. Its shape is one that
     /// [`Shape::check`] gives.
     ///
-    /// Refusals in order: Busy; FileExists, where there is one of its name, as the end compares names; NoMemory. Each
-    /// leaves the end unchanged.
+    /// Refusals in order: Busy; FileExists, where there is one of its name, as the end compares names, or with versions
+    /// where the number asked for is taken, none is left, or the name asks for none; NoMemory. Each leaves the end
+    /// unchanged.
     pub fn add(&mut self, name: &[u8], shape: Shape) -> Result<(), AddFault>
         requires { IsTrue (is_shape shape) }
         ensures may { OnOk result (MayAdd self.old name.now) }
