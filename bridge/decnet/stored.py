@@ -169,8 +169,9 @@ class Store:
         return self.end.fault
 
     def look(self):
-        """Looks at its file before a link is taken; why none is."""
-        self.end.check()
+        """Looks at its file before a link is taken; why none is. While it is written anew, another file gets its name."""
+        if not self.is_busy:
+            self.end.check()
         return self.fault
 
     @property

@@ -334,11 +334,7 @@ class StoredEndTest(JournalCase):
         self.assertEqual(Parsed("store", self.path.read_bytes()).told, [], "what follows a line that isn't there is no good")
         self.assertEqual([str(fault) for fault in faults], [f"{self.path}: No space left on device"])
         store.links_closed(is_last=False)
-        while store.is_busy:
-            if end.is_busy:
-                end.turn()
-            else:
-                store.keeper.look()
+        self.until_renewed(end, store)
         self.assertEqual((end.say("> 22"), store.fault), (["> 22"], None))
         lines = Parsed("store", self.path.read_bytes()).lines
         self.assertEqual(lines[1:], ["file 46 seq variable 0 0", "> 22"])
@@ -352,6 +348,24 @@ class StoredEndTest(JournalCase):
         self.assertEqual(end.say("< 60"), [])
         self.assertEqual([str(fault) for fault in faults], [f"{self.path}: somebody has removed it"])
         self.assertEqual(store.look(), faults[0])
+
+    def test_it_is_not_looked_at_while_it_is_written_anew(self):
+        """Another file gets its name then, and the old one is closed."""
+        end, store = self.stored("return []")
+        store.renew()
+        self.assertTrue(store.is_busy)
+        with mock.patch.object(end.journal, "misplaced", side_effect=AssertionError):
+            self.assertIsNone(store.look())
+        self.until_renewed(end, store)
+        self.path.unlink()
+        self.assertEqual(str(store.look()), f"{self.path}: somebody has removed it")
+
+    def until_renewed(self, end, store):
+        while store.is_busy:
+            if end.is_busy:
+                end.turn()
+            else:
+                store.keeper.look()
 
     def test_out_of_memory_makes_it_anew(self):
         end, store = self.stored("return ['refused no-memory'] if line[0] == '>' else []")
